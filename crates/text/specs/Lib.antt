@@ -1,0 +1,3 @@
+pub mod Bytes
+pub mod Utf8
+pub mod Laws
