@@ -1,0 +1,5 @@
+pub mod Order
+pub mod Texts
+mod Walks
+mod Rows
+mod Tables

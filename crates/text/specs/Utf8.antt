@@ -6,6 +6,7 @@ use mathlib.Core.List.{List, [], _∷_, _++_}
 use mathlib.Core.Logic.{_⊎_}
 use Prim.Native.Nat.{ℕ}
 use lib.Dec.{leb}
+use lib.ListN.{length, take}
 use Rattle.text.specs.Bytes.{Bytes}
 
 -- bytes from `low` to `high`, both counted in
@@ -71,3 +72,13 @@ isTextIn (r ∷ rs) (b ∷ t) = inside r b && isTextIn rs t
 
 abbrev pub isText : Bytes → Bool
 isText t = isTextIn [] t
+
+-- ---- the sequence in front
+
+-- how many bytes the sequence has that the bytes begin with: as many as the first row that it is of, and 0 if it is of none
+abbrev pub lengthIn : List (List Range) → Bytes → ℕ
+lengthIn [] t = 0
+lengthIn (row ∷ more) t = cond (ofRow row (take (length row) t)) (length row) (lengthIn more t)
+
+unfoldable pub sequenceLength : Bytes → ℕ
+sequenceLength t = lengthIn rows t

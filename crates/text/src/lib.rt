@@ -1,18 +1,16 @@
-// Bytes in order, and text.
-ghost use mathlib.Core.Path.{_≡_};
-ghost use Rattle.text.specs.Bytes.{same};
+// Bytes in order, text, and the one shape of a refusal.
+mod bytes;
+mod fault;
+mod laws;
+mod utf8;
 
-// Whether two byte strings are equal.
-pub fn equal(a: &[u8], b: &[u8]) -> bool
-    ensures { λ r. ⌜ r ≡ same (now (a .entry)) (now (b .entry)) ⌝ }
-{
-    if a.len() != b.len() {
-        return false;
-    }
-    for i in 0..a.len() {
-        if a[i] != b[i] {
-            return false;
-        }
-    }
-    true
-}
+pub use bytes::begins_with;
+pub use bytes::compare;
+pub use bytes::equal;
+pub use fault::Fault;
+pub use fault::FaultReport;
+pub use fault::Layer;
+pub use laws::byte_order_is_total;
+pub use laws::test_is_table;
+pub use utf8::is_text;
+pub use utf8::sequence_len;

@@ -1,0 +1,5 @@
+pub mod Splits
+pub mod Readings
+pub mod Joins
+pub mod PathOrder
+mod Padding

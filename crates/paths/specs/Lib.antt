@@ -1,0 +1,6 @@
+pub mod Names
+pub mod Paths
+pub mod Keys
+pub mod MetadataKeys
+pub mod Laws
+pub mod Held
