@@ -23,7 +23,7 @@ use Rattle.paths.proofs.Readings.{never, checked-ok, checked-is}
 -- ---- a relative path
 
 pub joined-not-slash : (base : Path) (b : ℕ) (t : Bytes) → eqb b 47 ≡ false → joined base (b ∷ t) ≡ checked (split (b ∷ t)) (base ++ split (b ∷ t))
-joined-not-slash base b t e = ap (λ (x : Bool). cond x (extended base t) (extended base (b ∷ t))) e
+joined-not-slash base b t e = ap (λ (x : Bool). extended base (cond x t (b ∷ t))) e
 
 pub joined-plain : (base : Path) (n u : Bytes) (r : Path) → noSlash n ≡ true → onlyPeriods n ≡ false → split (n ++ u) ≡ r → joined base (n ++ u) ≡ checked r (base ++ r)
 joined-plain base [] u r p d e = never d

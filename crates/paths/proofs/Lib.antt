@@ -3,3 +3,7 @@ pub mod Readings
 pub mod Joins
 pub mod PathOrder
 mod Padding
+mod Scans
+mod TextOrder
+pub mod Extends
+pub mod Values

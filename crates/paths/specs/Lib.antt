@@ -4,3 +4,5 @@ pub mod Keys
 pub mod MetadataKeys
 pub mod Laws
 pub mod Held
+pub mod Values
+pub mod Faults

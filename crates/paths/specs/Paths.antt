@@ -78,11 +78,18 @@ namesIn (b ∷ []) = []
 namesIn (b ∷ (c ∷ t)) = split (c ∷ t)
 
 -- `join` drops one leading `/` of the relative text; if nothing is left, it gives the base
+abbrev pub withoutSlash : Bytes → Bytes
+withoutSlash [] = []
+withoutSlash (b ∷ t) = cond (eqb b 47) t (b ∷ t)
+
 abbrev pub joined : Path → Bytes → Result Path PathFault
-joined base [] = Ok base
-joined base (b ∷ t) = cond (eqb b 47) (extended base t) (extended base (b ∷ t))
+joined base t = extended base (withoutSlash t)
 
 -- ---- parts of a path
+
+abbrev pub isRoot : Path → Bool
+isRoot [] = true
+isRoot (n ∷ p) = false
 
 -- the names but the last of `n` and those behind it, and the last
 abbrev pub leading : Name → Path → Path

@@ -2,7 +2,12 @@
 mod fault;
 mod file;
 mod inline;
+mod node_name;
+mod node_path;
+mod slashes;
 
 pub use fault::PathFault;
 pub use fault::StoreFault;
 pub use file::MetadataFile;
+pub use node_name::NodeName;
+pub use node_path::NodePath;

@@ -1,5 +1,6 @@
 pub mod Order
 pub mod Texts
+pub mod Rows
+pub mod Tables
+pub mod Scalars
 mod Walks
-mod Rows
-mod Tables

@@ -3,15 +3,15 @@
 use mathlib.Core.Path.{_≡_, refl, sym, _∙_, ap}
 use mathlib.Core.Bool.{Bool, true, false, cond}
 use mathlib.Core.Logic.{_⊎_, inl, inr}
-use mathlib.Core.List.{List, [], _∷_, _++_}
+use mathlib.Core.List.{[], _∷_, _++_}
 use Prim.Native.Nat.{ℕ, _<_, _≤_}
 use native.Mathlib.Omega.{arith}
 use lib.Dec.{eqb, ltb, leb}
-use borrow.Author.Tests.{eq-eqb, ne-eqb, lt-ltb}
+use borrow.Author.Tests.{eq-eqb, ne-eqb, lt-ltb, both-ways}
 use Rattle.std.proofs.shelf.Ways.{tells, leb-tells}
-use Rattle.std.specs.declared.option.Option.{Option}
 use Rattle.std.specs.declared.option.Option.the-variants.{Some, None}
-use Rattle.text.specs.Bytes.{Bytes, same, before, stripped}
+use Rattle.std.specs.declared.cmp.Ordering.the-variants.{Less, Equal, Greater}
+use Rattle.text.specs.Bytes.{Bytes, same, before, ordering, byteOrder, stripped}
 
 pub same-refl : (x : Bytes) → same x x ≡ true
 same-refl [] = refl
@@ -92,18 +92,59 @@ pub before-alone : (x : Bytes) → before x x ≡ false
 before-alone [] = refl
 before-alone (x ∷ xs) = rw (eq-eqb x x refl) (before-alone xs)
 
-one-first : (x y : ℕ) (xs ys : Bytes) → (before xs ys ≡ true) ⊎ ((xs ≡ ys) ⊎ (before ys xs ≡ true)) → (before (x ∷ xs) (y ∷ ys) ≡ true) ⊎ (((x ∷ xs) ≡ (y ∷ ys)) ⊎ (before (y ∷ ys) (x ∷ xs) ≡ true))
+-- one of two comes first, unless they are equal
+abbrev pub Either : Bytes → Bytes → Type 0
+Either x y = (before x y ≡ true) ⊎ ((x ≡ y) ⊎ (before y x ≡ true))
+
+one-first : (x y : ℕ) (xs ys : Bytes) → Either xs ys → Either (x ∷ xs) (y ∷ ys)
 one-first x y xs ys h = by (order x y) h
   where
-    by : (x < y) ⊎ ((x ≡ y) ⊎ (y < x)) → (before xs ys ≡ true) ⊎ ((xs ≡ ys) ⊎ (before ys xs ≡ true)) → (before (x ∷ xs) (y ∷ ys) ≡ true) ⊎ (((x ∷ xs) ≡ (y ∷ ys)) ⊎ (before (y ∷ ys) (x ∷ xs) ≡ true))
+    by : (x < y) ⊎ ((x ≡ y) ⊎ (y < x)) → Either xs ys → Either (x ∷ xs) (y ∷ ys)
     by (inl l) _ = inl (heads-less x y xs ys l)
     by (inr (inl e)) (inl r) = inl (heads-same x y xs ys e ∙ r)
     by (inr (inl e)) (inr (inl r)) = inr (inl (cc))
     by (inr (inl e)) (inr (inr r)) = inr (inr (heads-same y x ys xs (sym e) ∙ r))
     by (inr (inr g)) _ = inr (inr (heads-less y x ys xs g))
 
-pub before-either : (x y : Bytes) → (before x y ≡ true) ⊎ ((x ≡ y) ⊎ (before y x ≡ true))
+pub before-either : (x y : Bytes) → Either x y
 before-either [] [] = inr (inl refl)
 before-either [] (y ∷ ys) = inl refl
 before-either (x ∷ xs) [] = inr (inr refl)
 before-either (x ∷ xs) (y ∷ ys) = one-first x y xs ys (before-either xs ys)
+
+pub before-asym : (x y : Bytes) → before x y ≡ true → before y x ≡ false
+before-asym x y h = by (before y x) refl
+  where
+    by : (b : Bool) → before y x ≡ b → b ≡ false
+    by true e = sym (before-trans x y x h e) ∙ before-alone x
+    by false e = refl
+
+-- ---- what the answer of three says
+says-less : (s l : Bool) → ordering s l ≡ Less → l ≡ true
+says-less true l e = grind arith
+says-less false true e = refl
+says-less false false e = grind arith
+
+says-equal : (s l : Bool) → ordering s l ≡ Equal → s ≡ true
+says-equal true l e = refl
+says-equal false true e = grind arith
+says-equal false false e = grind arith
+
+says-greater : (s l : Bool) → ordering s l ≡ Greater → (s ≡ false) × (l ≡ false)
+says-greater true l e = grind arith
+says-greater false true e = grind arith
+says-greater false false e = (refl, refl)
+
+pub order-less : (x y : Bytes) → byteOrder x y ≡ Less → before x y ≡ true
+order-less x y e = says-less (same x y) (before x y) e
+
+pub order-equal : (x y : Bytes) → byteOrder x y ≡ Equal → x ≡ y
+order-equal x y e = same-eq x y (says-equal (same x y) (before x y) e)
+
+pub order-greater : (x y : Bytes) → byteOrder x y ≡ Greater → before y x ≡ true
+order-greater x y e = by (says-greater (same x y) (before x y) e) (before-either x y)
+  where
+    by : (same x y ≡ false) × (before x y ≡ false) → Either x y → before y x ≡ true
+    by w (inl h) = absurd (both-ways (before x y) (w .1) h)
+    by w (inr (inl h)) = absurd (both-ways (same x y) (w .0) (ap (same x) (sym h) ∙ same-refl x))
+    by w (inr (inr h)) = h

@@ -9,10 +9,10 @@ use native.Mathlib.Nat.{not-suc-le-zero, le-of-suc-le-suc}
 use lib.Count.{leadingZeros, leading-unique}
 use lib.Dec.{leb, ltb}
 use lib.ListN.{length, getD, take, drop, List·getD-map}
-use borrow.Author.Tests.{le-leb, lt-leb, lt-ltb, le-ltb, leb-true, ltb-true}
+use borrow.Author.Tests.{lt-leb, lt-ltb, le-ltb, leb-true, ltb-true, clash}
 use Rattle.std.proofs.shelf.Lists.{drop-more, drop-all, getD-take, getD-drop, length-take, length-take-le, length-drop}
 use Rattle.text.specs.Bytes.{Bytes}
-use Rattle.text.specs.Rows.{rangeOf, rangesOf}
+use Rattle.text.specs.Rows.{rangeOf, rangesOf, widthOf}
 use Rattle.text.specs.Utf8.{Range, inside, rows, ofRow, begins, behind, isTextIn, isText, lengthIn, sequenceLength}
 use Rattle.text.specs.declared.utf8.ByteRange.{ByteRange}
 use Rattle.text.specs.declared.utf8.Row.{Row}
@@ -23,8 +23,8 @@ use Rattle.text.proofs.Texts.{both, inside-low}
 -- bytes of a row are as many as its ranges
 pub row-length : (row : List Range) (t : Bytes) → ofRow row t ≡ true → length row ≡ length t
 row-length [] [] e = refl
-row-length [] (b ∷ t) e = let z : _≡_ {A = ℕ} 0 1 = cc in absurd (omega arith)
-row-length (r ∷ row) [] e = let z : _≡_ {A = ℕ} 0 1 = cc in absurd (omega arith)
+row-length [] (b ∷ t) e = absurd (clash e)
+row-length (r ∷ row) [] e = absurd (clash e)
 row-length (r ∷ row) (b ∷ t) e = ap suc (row-length row t (both (inside r b) (ofRow row t) e .1))
 
 is-false : (b : Bool) → (b ≡ true → ⊥) → b ≡ false
@@ -34,20 +34,13 @@ is-false false h = refl
 pub row-unlike : (row : List Range) (t : Bytes) → (length row ≡ length t → ⊥) → ofRow row t ≡ false
 row-unlike row t h = is-false (ofRow row t) (λ e. h (row-length row t e))
 
-module _ (row : List Range) (t : Bytes) (k : ℕ) (d : Range) (h : k < length row) (g : k < length t) where
-  pub row-more : inside (getD row k d) (getD t k 0) ≡ true → ofRow (drop k row) (drop k t) ≡ ofRow (drop (k + 1) row) (drop (k + 1) t)
-  row-more e = rw (drop-more row k d h, drop-more t k 0 g, e)
-
-  pub row-apart : inside (getD row k d) (getD t k 0) ≡ false → ofRow (drop k row) (drop k t) ≡ false
-  row-apart e = rw (drop-more row k d h, drop-more t k 0 g, e)
+pub row-turn : (row : List Range) (t : Bytes) (k : ℕ) (d : Range) → k < length row → k < length t → (x : Bool) → inside (getD row k d) (getD t k 0) ≡ x → ofRow (drop k row) (drop k t) ≡ (x && ofRow (drop (k + 1) row) (drop (k + 1) t))
+row-turn row t k d h g x e = rw (drop-more row k d h, drop-more t k 0 g, e)
 
 pub row-end : (row : List Range) (t : Bytes) (k : ℕ) → length row ≤ k → length t ≤ k → ofRow (drop k row) (drop k t) ≡ true
 row-end row t k h g = rw (drop-all k row h, drop-all k t g)
 
 -- ---- how many leading ones the first byte has
-abbrev pub widthOf : ℕ → ℕ
-widthOf b = cond (ltb b 128) 1 (leadingZeros 8 (255 - b))
-
 -- every first byte of a row of n bytes has n leading ones, and none if n is 1
 abbrev wide : List Range → Bool
 wide [] = false
@@ -71,7 +64,7 @@ ones b n m p low high e sum big under over l h =
     w ∙ sym (ap (λ t. cond t 1 (leadingZeros 8 (255 - b))) (le-ltb b 128 (omega arith)))
 
 pub row-width : (row : List Range) (b : ℕ) (t : Bytes) → wide row ≡ true → ofRow row (take (length row) (b ∷ t)) ≡ true → length row ≡ widthOf b
-row-width [] b t w e = let z : _≡_ {A = ℕ} 0 1 = cc in absurd (omega arith)
+row-width [] b t w e = absurd (clash w)
 row-width (r ∷ []) b t w e =
     let s = inside-low r b (both (inside r b) (ofRow [] []) e .0) in
     let u = ltb-true (r .high) 128 w in
@@ -87,20 +80,14 @@ row-width (r ∷ q ∷ row) b t w e =
     ones b n m (2 ^ m) (r .low) (r .high) refl (omega arith) (leb-true 128 (r .low) (w2 .0)) (ltb-true (255 - r .low) (2 ^ m) (w3 .0)) (leb-true (2 ^ m) (2 * (255 - r .high) + 1) (w3 .1)) (s .0) (s .1)
 
 -- ---- the first row that fits
-module _ (t : Bytes) (k : ℕ) (h : k < 9) where
-  pub pass : ofRow (getD rows k []) (take (length (getD rows k [])) t) ≡ false → lengthIn (drop k rows) t ≡ lengthIn (drop (k + 1) rows) t
-  pass e =
-      ap (λ ms. lengthIn ms t) (drop-more rows k [] h)
-      ∙ ap (λ x. cond x (length (getD rows k [])) (lengthIn (drop (k + 1) rows) t)) e
-
-  pub found : ofRow (getD rows k []) (take (length (getD rows k [])) t) ≡ true → lengthIn (drop k rows) t ≡ length (getD rows k [])
-  found e =
-      ap (λ ms. lengthIn ms t) (drop-more rows k [] h)
-      ∙ ap (λ x. cond x (length (getD rows k [])) (lengthIn (drop (k + 1) rows) t)) e
+pub table-turn : (t : Bytes) (k : ℕ) → k < 9 → (x : Bool) → ofRow (getD rows k []) (take (length (getD rows k [])) t) ≡ x → lengthIn (drop k rows) t ≡ cond x (length (getD rows k [])) (lengthIn (drop (k + 1) rows) t)
+table-turn t k h x e =
+    ap (λ ms. lengthIn ms t) (drop-more rows k [] h)
+    ∙ ap (λ b. cond b (length (getD rows k [])) (lengthIn (drop (k + 1) rows) t)) e
 
 pub pass-width : (b : ℕ) (t : Bytes) (k : ℕ) → k < 9 → (length (getD rows k []) ≡ widthOf b → ⊥) → lengthIn (drop k rows) (b ∷ t) ≡ lengthIn (drop (k + 1) rows) (b ∷ t)
 pass-width b t k h ne =
-    pass (b ∷ t) k h
+    table-turn (b ∷ t) k h false
     (is-false (ofRow (getD rows k []) (take (length (getD rows k [])) (b ∷ t))) (λ e. ne (row-width (getD rows k []) b t (pick rows refl k h) e)))
 
 pub none-left : (t : Bytes) (k : ℕ) → 9 ≤ k → lengthIn (drop k rows) t ≡ 0
@@ -109,7 +96,7 @@ none-left t k h = ap (λ ms. lengthIn ms t) (drop-all k rows h)
 -- no sequence is longer than what it stands in
 fit-le : (row : List Range) (t : Bytes) → ofRow row (take (length row) t) ≡ true → length row ≤ length t
 fit-le [] t e = omega arith
-fit-le (r ∷ row) [] e = let z : _≡_ {A = ℕ} 0 1 = cc in absurd (omega arith)
+fit-le (r ∷ row) [] e = absurd (clash e)
 fit-le (r ∷ row) (b ∷ t) e =
     let i : length row ≤ length t = fit-le row t (both (inside r b) (ofRow row (take (length row) t)) e .1) in omega arith
 
@@ -140,13 +127,13 @@ outside r b h = rw (lt-leb (r .low) b h)
 
 pub none-begins : (h b : ℕ) (ms : List (List Range)) → rising h ms ≡ true → b < h → begins ms b ≡ false
 none-begins h b [] e l = refl
-none-begins h b ([] ∷ more) e l = let z : _≡_ {A = ℕ} 0 1 = cc in absurd (omega arith)
+none-begins h b ([] ∷ more) e l = absurd (clash e)
 none-begins h b ((r ∷ p) ∷ more) e l =
     let s = rises h r p more e in rw (outside r b (omega arith)) (none-begins (suc (r .high)) b more (s .2) (omega arith))
 
 none-length : (ms : List (List Range)) (h b : ℕ) (t : Bytes) → rising h ms ≡ true → b < h → lengthIn ms (b ∷ t) ≡ 0
 none-length [] h b t e l = refl
-none-length ([] ∷ more) h b t e l = let z : _≡_ {A = ℕ} 0 1 = cc in absurd (omega arith)
+none-length ([] ∷ more) h b t e l = absurd (clash e)
 none-length ((r ∷ p) ∷ more) h b t e l =
     let s = rises h r p more e in rw (outside r b (omega arith)) (none-length more (suc (r .high)) b t (s .2) (omega arith))
 
@@ -156,7 +143,7 @@ fitting ms b t = begins ms b && ofRow (behind ms b) (take (length (behind ms b))
 
 length-first : (h : ℕ) (ms : List (List Range)) (b : ℕ) (t : Bytes) → rising h ms ≡ true → lengthIn ms (b ∷ t) ≡ cond (fitting ms b t) (suc (length (behind ms b))) 0
 length-first h [] b t e = refl
-length-first h ([] ∷ more) b t e = let z : _≡_ {A = ℕ} 0 1 = cc in absurd (omega arith)
+length-first h ([] ∷ more) b t e = absurd (clash e)
 length-first h ((r ∷ p) ∷ more) b t e =
     let s = rises h r p more e in by (s .2) (length-first (suc (r .high)) more b t (s .2)) (inside r b) refl
   where
@@ -221,15 +208,10 @@ module _ (row : Row) (s : Bytes) (at k : ℕ) (full : length (rangesOf row) ≡ 
   fit-short h =
       row-unlike (rangesOf row) seen (λ e. let l = length-take (row .len) (drop at s) in let m = length-drop at s in omega arith)
 
-  pub fit-more : (x : ByteRange) → row .len ≤ length s - at → k < row .len → x ≡ getD (row .ranges) k x → true ≡ inside (rangeOf x) (getD s (at + k) 0) → ofRow (drop k (rangesOf row)) (drop k seen) ≡ ofRow (drop (k + 1) (rangesOf row)) (drop (k + 1) seen)
-  fit-more x room h e i =
+  pub fit-turn : (x : ByteRange) → row .len ≤ length s - at → k < row .len → x ≡ getD (row .ranges) k x → (y : Bool) → y ≡ inside (rangeOf x) (getD s (at + k) 0) → ofRow (drop k (rangesOf row)) (drop k seen) ≡ (y && ofRow (drop (k + 1) (rangesOf row)) (drop (k + 1) seen))
+  fit-turn x room h e y i =
       let l : length seen ≡ row .len = seen-length room in
-      row-more (rangesOf row) seen k (rangeOf x) (omega arith) (omega arith) (inside-is x h e ∙ sym i)
-
-  pub fit-apart : (x : ByteRange) → row .len ≤ length s - at → k < row .len → x ≡ getD (row .ranges) k x → false ≡ inside (rangeOf x) (getD s (at + k) 0) → ofRow (drop k (rangesOf row)) (drop k seen) ≡ false
-  fit-apart x room h e i =
-      let l : length seen ≡ row .len = seen-length room in
-      row-apart (rangesOf row) seen k (rangeOf x) (omega arith) (omega arith) (inside-is x h e ∙ sym i)
+      row-turn (rangesOf row) seen k (rangeOf x) (omega arith) (omega arith) y (inside-is x h e ∙ sym i)
 
   pub fit-end : row .len ≤ length s - at → row .len ≤ k → ofRow (drop k (rangesOf row)) (drop k seen) ≡ true
   fit-end room h =
@@ -240,17 +222,11 @@ module _ (s : Bytes) (at k : ℕ) (row : Row) (h : k < 9) (ranges : rangesOf row
   size : length (getD rows k []) ≡ row .len
   size = sym (ap length ranges) ∙ full
 
-  fit-is : (x : Bool) → x ≡ ofRow (rangesOf row) (take (row .len) (drop at s)) → ofRow (getD rows k []) (take (length (getD rows k [])) (drop at s)) ≡ x
-  fit-is x e =
-      ap (λ r. ofRow r (take (length (getD rows k [])) (drop at s))) (sym ranges)
-      ∙ ap (λ n. ofRow (rangesOf row) (take n (drop at s))) size
-      ∙ sym e
-
-  pub read-unfit : false ≡ ofRow (rangesOf row) (take (row .len) (drop at s)) → lengthIn (drop k rows) (drop at s) ≡ lengthIn (drop (k + 1) rows) (drop at s)
-  read-unfit e = pass (drop at s) k h (fit-is false e)
-
-  pub read-fit : true ≡ ofRow (rangesOf row) (take (row .len) (drop at s)) → lengthIn (drop k rows) (drop at s) ≡ row .len
-  read-fit e = found (drop at s) k h (fit-is true e) ∙ size
+  pub read-turn : (x : Bool) → x ≡ ofRow (rangesOf row) (take (row .len) (drop at s)) → lengthIn (drop k rows) (drop at s) ≡ cond x (row .len) (lengthIn (drop (k + 1) rows) (drop at s))
+  read-turn x e =
+      table-turn (drop at s) k h x
+      (ap (λ r. ofRow r (take (length (getD rows k [])) (drop at s))) (sym ranges) ∙ ap (λ n. ofRow (rangesOf row) (take n (drop at s))) size ∙ sym e)
+      ∙ ap (λ n. cond x n (lengthIn (drop (k + 1) rows) (drop at s))) size
 
   pub read-unlike : (n : ℕ) → at < length s → n ≡ widthOf (getD s at 0) → (row .len ≡ n → ⊥) → lengthIn (drop k rows) (drop at s) ≡ lengthIn (drop (k + 1) rows) (drop at s)
   read-unlike n here w ne =

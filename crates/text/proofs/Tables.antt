@@ -1,14 +1,15 @@
 -- The test and the table: it grants sequences of the rows, one after the other, and nothing else.
 -- Assumes nothing.
-use mathlib.Core.Path.{_≡_, refl, sym, ap, subst, _∙_}
-use mathlib.Core.Bool.{Bool, true, false, cond, _&&_}
+use mathlib.Core.Path.{_≡_, refl, ap, subst, _∙_}
+use mathlib.Core.Bool.{Bool, true, false, cond}
 use mathlib.Core.List.{List, [], _∷_, _++_}
-use mathlib.Core.Logic.{_⊎_, inl, inr}
-use Prim.Native.Nat.{ℕ, suc, _≤_, _<_}
+use mathlib.Core.Logic.{inl, inr}
+use Prim.Native.Nat.{ℕ, suc}
 use native.Mathlib.Omega.{arith}
-use borrow.Author.Tests.{both-ways}
+use lib.ListN.{length, take}
+use borrow.Author.Tests.{both-ways, clash}
 use Rattle.text.specs.Bytes.{Bytes}
-use Rattle.text.specs.Utf8.{Range, inside, rows, ofRow, In, Text, begins, behind, isTextIn, isText}
+use Rattle.text.specs.Utf8.{Range, inside, rows, ofRow, In, Text, begins, behind, isTextIn, isText, lengthIn, sequenceLength}
 use Rattle.text.specs.Utf8.Text.{nothing, sequence}
 use Rattle.text.proofs.Rows.{rising, rises, none-begins}
 use Rattle.text.proofs.Texts.{both, and, inside-low, text-append}
@@ -16,7 +17,7 @@ use Rattle.text.proofs.Texts.{both, and, inside-low, text-append}
 -- a row that some byte begins is the one that the test takes
 the-row : (h : ℕ) (ms : List (List Range)) (r : Range) (p : List Range) (b : ℕ) → rising h ms ≡ true → In (r ∷ p) ms → inside r b ≡ true → (begins ms b ≡ true) × (behind ms b ≡ p)
 the-row h [] r p b up i e = absurd i
-the-row h ([] ∷ more) r p b up i e = let z : _≡_ {A = ℕ} 0 1 = cc in absurd (omega arith)
+the-row h ([] ∷ more) r p b up i e = absurd (clash up)
 the-row h ((q ∷ w) ∷ more) r p b up (inl i) e =
     let same : q ≡ r = cc in
     let t : inside q b ≡ true = ap (λ x. inside x b) same ∙ e in
@@ -34,7 +35,7 @@ the-row h ((q ∷ w) ∷ more) r p b up (inr i) e =
 
 run-of : (p : List Range) (s : Bytes) → ofRow p s ≡ true → isTextIn p s ≡ true
 run-of [] [] e = refl
-run-of [] (b ∷ s) e = let z : _≡_ {A = ℕ} 0 1 = cc in absurd (omega arith)
+run-of [] (b ∷ s) e = absurd (clash e)
 run-of (r ∷ p) [] e = e
 run-of (r ∷ p) (b ∷ s) e =
     let w = both (inside r b) (ofRow p s) e in and (inside r b) (isTextIn p s) (w .0) (run-of p s (w .1))
@@ -42,7 +43,7 @@ run-of (r ∷ p) (b ∷ s) e =
 -- a sequence of a row is text
 pub row-text : (row : List Range) (s : Bytes) → In row rows → ofRow row s ≡ true → isText s ≡ true
 row-text [] s i e = run-of [] s e
-row-text (r ∷ p) [] i e = let z : _≡_ {A = ℕ} 0 1 = cc in absurd (omega arith)
+row-text (r ∷ p) [] i e = absurd (clash e)
 row-text (r ∷ p) (b ∷ s) i e =
     let w = both (inside r b) (ofRow p s) e in
     let f = the-row 0 rows r p b refl i (w .0) in
@@ -54,7 +55,7 @@ from-text _ (sequence row s t i e rest) = text-append s t (row-text row s i e) �
 
 -- ---- and back
 first-row : (ms : List (List Range)) (b : ℕ) → begins ms b ≡ true → (r : Range) × (In (r ∷ behind ms b) ms × (inside r b ≡ true))
-first-row [] b e = let z : _≡_ {A = ℕ} 0 1 = cc in absurd (omega arith)
+first-row [] b e = absurd (clash e)
 first-row ([] ∷ more) b e = let w = first-row more b e in (w .0, (inr (w .1 .0), w .1 .1))
 first-row ((r ∷ p) ∷ more) b e =
     (elim (inside r b) as (λ x. inside r b ≡ x → cond x true (begins more b) ≡ true → (q : Range) × (In (q ∷ cond x p (behind more b)) ((r ∷ p) ∷ more) × (inside q b ≡ true))) [
@@ -72,7 +73,7 @@ record Split (p : List Range) (t : Bytes) : Type 0 where
 
 run-split : (p : List Range) (t : Bytes) → isTextIn p t ≡ true → Split p t
 run-split [] [] e = record { front = []; back = []; whole = refl; of = refl; text = nothing }
-run-split (r ∷ p) [] e = let z : _≡_ {A = ℕ} 0 1 = cc in absurd (omega arith)
+run-split (r ∷ p) [] e = absurd (clash e)
 run-split (r ∷ p) (b ∷ t) e =
     let s = both (inside r b) (isTextIn p t) e in
     let w = run-split p t (s .1) in
@@ -89,4 +90,17 @@ to-text t e = let w = run-split [] t e in by (w .front) (w .back) (w .of) (w .wh
   where
     by : (s u : Bytes) → ofRow [] s ≡ true → s ++ u ≡ t → Text u → Text t
     by [] u o q x = subst Text q x
-    by (b ∷ s) u o q x = let z : _≡_ {A = ℕ} 0 1 = cc in absurd (omega arith)
+    by (b ∷ s) u o q x = absurd (clash o)
+
+-- ---- the sequence in front is text
+front-text : (ms : List (List Range)) (t : Bytes) → ((row : List Range) → In row ms → In row rows) → isText (take (lengthIn ms t) t) ≡ true
+front-text [] t f = refl
+front-text (row ∷ more) t f =
+    (elim (ofRow row (take (length row) t)) as (λ x. ofRow row (take (length row) t) ≡ x → isText (take (cond x (length row) (lengthIn more t)) t) ≡ true) [
+      | true ↦ λ e. row-text row (take (length row) t) (f row (inl refl)) e
+      | false ↦ λ e. front-text more t (λ w i. f w (inr i))
+    ]) refl
+
+pub sequence-text : (t : Bytes) → isText (take (sequenceLength t) t) ≡ true
+unfolding sequenceLength
+sequence-text t = front-text rows t (λ row i. i)

@@ -1,19 +1,19 @@
 -- Text by the table: two texts in a row, an ASCII byte in front, and an ASCII byte to cut at.
 -- Assumes nothing.
-use mathlib.Core.Path.{_≡_, refl, sym, ap, subst, _∙_}
+use mathlib.Core.Path.{_≡_, refl, sym, _∙_}
 use mathlib.Core.Bool.{Bool, true, false, cond, _&&_}
 use mathlib.Core.List.{List, [], _∷_, _++_}
-use Prim.Native.Nat.{ℕ, suc, _+_, _≤_, _<_}
+use Prim.Native.Nat.{ℕ, _+_, _≤_}
 use native.Mathlib.Omega.{arith}
 use lib.Dec.{leb, ltb}
-use borrow.Author.Tests.{le-leb, leb-true, ltb-true}
+use borrow.Author.Tests.{le-leb, leb-true, ltb-true, clash}
 use Rattle.text.specs.Bytes.{Bytes}
 use Rattle.text.specs.Utf8.{Range, range, inside, rows, begins, behind, isTextIn, isText}
 
 -- ---- tests
 pub both : (x y : Bool) → (x && y) ≡ true → (x ≡ true) × (y ≡ true)
 both true y e = (refl, e)
-both false y e = let z : _≡_ {A = ℕ} 0 1 = cc in (e, absurd (omega arith))
+both false y e = (e, absurd (clash e))
 
 pub and : (x y : Bool) → x ≡ true → y ≡ true → (x && y) ≡ true
 and x y e f = rw (e, f)
@@ -29,7 +29,7 @@ is-inside r b l h = and (leb (r .low) b) (leb b (r .high)) (le-leb (r .low) b l)
 -- ---- two texts in a row
 run-append : (p : List Range) (a b : Bytes) → isTextIn p a ≡ true → isTextIn p (a ++ b) ≡ isText b
 run-append [] [] b h = refl
-run-append (r ∷ p) [] b h = let z : _≡_ {A = ℕ} 0 1 = cc in absurd (omega arith)
+run-append (r ∷ p) [] b h = absurd (clash h)
 run-append [] (x ∷ a) b h =
     let s = both (begins rows x) (isTextIn (behind rows x) a) h in
     rw (s .0) (run-append (behind rows x) a b (s .1))

@@ -11,6 +11,7 @@ pub use fault::Fault;
 pub use fault::FaultReport;
 pub use fault::Layer;
 pub use laws::byte_order_is_total;
+pub use laws::test_is_library;
 pub use laws::test_is_table;
 pub use utf8::is_text;
 pub use utf8::sequence_len;

@@ -1,20 +1,14 @@
 // Well-formed UTF-8, by the Unicode Standard's table of byte sequences.
 ghost use mathlib.Core.Path.{_≡_};
-ghost use mathlib.Core.Bool.{cond};
 ghost use mathlib.Core.List.{[]};
-ghost use Prim.Native.Nat.{_-_, _<_, _≤_};
-ghost use lib.Count.{leadingZeros};
-ghost use lib.Dec.{ltb};
+ghost use Prim.Native.Nat.{_<_, _≤_};
 ghost use lib.ListN.{length, getD, take, drop};
-ghost use Rattle.text.specs.Rows.{rangeOf, rangesOf};
+ghost use Rattle.text.specs.Rows.{rangeOf, rangesOf, widthOf};
 ghost use Rattle.text.specs.Utf8.{rows, inside, ofRow, sequenceLength, isText};
 
-// Bytes from `low` to `high`, both counted in.
+// Bytes from the first to the second, both counted in.
 #[derive(Clone, Copy)]
-pub(crate) struct ByteRange {
-    low: u8,
-    high: u8,
-}
+pub(crate) struct ByteRange(u8, u8);
 
 // A row of the table: a range for each of `len` bytes.
 #[derive(Clone, Copy)]
@@ -23,132 +17,46 @@ pub(crate) struct Row {
     ranges: [ByteRange; 4],
 }
 
-// A byte behind the first, where the first leaves it free.
-const TAIL: ByteRange = ByteRange {
-    low: 0x80,
-    high: 0xBF,
-};
+// A byte behind the first where the first leaves it free, and a place that a row does not use.
+const TAIL: ByteRange = ByteRange(0x80, 0xBF);
 
+// The table of well-formed byte sequences, in its order.
 const ROWS: [Row; 9] = [
     Row {
         len: 1,
-        ranges: [
-            ByteRange {
-                low: 0x00,
-                high: 0x7F,
-            },
-            TAIL,
-            TAIL,
-            TAIL,
-        ],
+        ranges: [ByteRange(0x00, 0x7F), TAIL, TAIL, TAIL],
     },
     Row {
         len: 2,
-        ranges: [
-            ByteRange {
-                low: 0xC2,
-                high: 0xDF,
-            },
-            TAIL,
-            TAIL,
-            TAIL,
-        ],
+        ranges: [ByteRange(0xC2, 0xDF), TAIL, TAIL, TAIL],
     },
     Row {
         len: 3,
-        ranges: [
-            ByteRange {
-                low: 0xE0,
-                high: 0xE0,
-            },
-            ByteRange {
-                low: 0xA0,
-                high: 0xBF,
-            },
-            TAIL,
-            TAIL,
-        ],
+        ranges: [ByteRange(0xE0, 0xE0), ByteRange(0xA0, 0xBF), TAIL, TAIL],
     },
     Row {
         len: 3,
-        ranges: [
-            ByteRange {
-                low: 0xE1,
-                high: 0xEC,
-            },
-            TAIL,
-            TAIL,
-            TAIL,
-        ],
+        ranges: [ByteRange(0xE1, 0xEC), TAIL, TAIL, TAIL],
     },
     Row {
         len: 3,
-        ranges: [
-            ByteRange {
-                low: 0xED,
-                high: 0xED,
-            },
-            ByteRange {
-                low: 0x80,
-                high: 0x9F,
-            },
-            TAIL,
-            TAIL,
-        ],
+        ranges: [ByteRange(0xED, 0xED), ByteRange(0x80, 0x9F), TAIL, TAIL],
     },
     Row {
         len: 3,
-        ranges: [
-            ByteRange {
-                low: 0xEE,
-                high: 0xEF,
-            },
-            TAIL,
-            TAIL,
-            TAIL,
-        ],
+        ranges: [ByteRange(0xEE, 0xEF), TAIL, TAIL, TAIL],
     },
     Row {
         len: 4,
-        ranges: [
-            ByteRange {
-                low: 0xF0,
-                high: 0xF0,
-            },
-            ByteRange {
-                low: 0x90,
-                high: 0xBF,
-            },
-            TAIL,
-            TAIL,
-        ],
+        ranges: [ByteRange(0xF0, 0xF0), ByteRange(0x90, 0xBF), TAIL, TAIL],
     },
     Row {
         len: 4,
-        ranges: [
-            ByteRange {
-                low: 0xF1,
-                high: 0xF3,
-            },
-            TAIL,
-            TAIL,
-            TAIL,
-        ],
+        ranges: [ByteRange(0xF1, 0xF3), TAIL, TAIL, TAIL],
     },
     Row {
         len: 4,
-        ranges: [
-            ByteRange {
-                low: 0xF4,
-                high: 0xF4,
-            },
-            ByteRange {
-                low: 0x80,
-                high: 0x8F,
-            },
-            TAIL,
-            TAIL,
-        ],
+        ranges: [ByteRange(0xF4, 0xF4), ByteRange(0x80, 0x8F), TAIL, TAIL],
     },
 ];
 
@@ -172,7 +80,7 @@ fn range_at(row: &Row, k: usize) -> ByteRange
 fn within(range: ByteRange, b: u8) -> bool
     ensures { λ r. ⌜ r ≡ inside (rangeOf range) b ⌝ }
 {
-    (range.low <= b) & (b <= range.high)
+    (range.0 <= b) & (b <= range.1)
 }
 
 // Whether the bytes from `at` on begin with a sequence of the row.
@@ -193,9 +101,9 @@ fn fits(row: &Row, s: &[u8], at: usize) -> bool
     true
 }
 
-// How many bytes the first byte asks for: as many as it has leading ones, and one where it has none.
+// How many bytes a first byte asks for, by its leading ones.
 fn width(b: u8) -> usize
-    ensures { λ r. ⌜ r ≡ cond (ltb b 128) 1 (leadingZeros 8 (255 - b)) ⌝ }
+    ensures { λ r. ⌜ r ≡ widthOf b ⌝ }
 {
     if b < 128 {
         return 1;

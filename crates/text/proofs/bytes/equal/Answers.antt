@@ -4,7 +4,7 @@ use Rattle.text.proofs.Walks.{same-length, same-more, same-apart-at, same-end}
 use Rattle.text.proofs.bytes.equal.Needs as need
 
 pub returns-then-a-b : need.returns-then-a-b
-returns-then-a-b c = sym (same-length (c .args .a .now) (c .args .b .now) (c .if-a-b .taken))
+returns-then-a-b c = sym (same-length (c .args .a .now) (c .args .b .now) (λ e. omega arith))
 
 pub returns-then-a-i : need.returns-then-a-i
 returns-then-a-i c =

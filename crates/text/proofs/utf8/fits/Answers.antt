@@ -1,5 +1,6 @@
 use mathlib.Core.Path.{sym, _∙_}
-use Rattle.text.proofs.Rows.{fit-short, fit-more, fit-apart, fit-end}
+use mathlib.Core.Bool.{true, false}
+use Rattle.text.proofs.Rows.{fit-short, fit-turn, fit-end}
 use Rattle.text.proofs.utf8.fits.Needs as need
 
 pub returns-then-s-at : need.returns-then-s-at
@@ -8,11 +9,11 @@ returns-then-s-at c =
 
 pub returns-then-not-within : need.returns-then-not-within
 returns-then-not-within c =
-    sym (c .loop-k .inv ∙ fit-apart (c .args .row .now) (c .args .s .now) (c .args .at) (c .loop-k .k) (c .pre .full) (c .range-at .result) (c .if-s-at .left) (c .loop-k-test .taken) (c .range-at .ensures) (c .if-not-within .ensures tt))
+    sym (c .loop-k .inv ∙ fit-turn (c .args .row .now) (c .args .s .now) (c .args .at) (c .loop-k .k) (c .pre .full) (c .range-at .result) (c .if-s-at .left) (c .loop-k-test .taken) (c .range-at .ensures) false (c .if-not-within .ensures tt))
 
 pub loop-k-again : need.loop-k-again
 loop-k-again c =
-    c .loop-k .inv ∙ fit-more (c .args .row .now) (c .args .s .now) (c .args .at) (c .loop-k .k) (c .pre .full) (c .range-at .result) (c .if-s-at .left) (c .loop-k-test .taken) (c .range-at .ensures) (c .if-not-within .ensures tt)
+    c .loop-k .inv ∙ fit-turn (c .args .row .now) (c .args .s .now) (c .args .at) (c .loop-k .k) (c .pre .full) (c .range-at .result) (c .if-s-at .left) (c .loop-k-test .taken) (c .range-at .ensures) true (c .if-not-within .ensures tt)
 
 pub returns : need.returns
 returns c =

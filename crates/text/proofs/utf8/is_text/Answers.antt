@@ -26,12 +26,13 @@ add-i c =
     search needs
 
 pub loop-i-again : need.loop-i-again
-loop-i-again c = (
-  ends (c .args .s .now) (c .loop-i .i) (c .sequence-len-n .result) (c .loop-i-test .taken) (c .sequence-len-n .ensures),
-  c .loop-i .inv .1
-      ∙ text-more (drop (c .loop-i .i) (c .args .s .now)) (c .sequence-len-n .result) (c .sequence-len-n .ensures) (c .if-n-eq0 .left)
-      ∙ ap isText (drop-drop (c .sequence-len-n .result) (c .loop-i .i) (c .args .s .now)),
-)
+loop-i-again c =
+    let w = ends (c .args .s .now) (c .loop-i .i) (c .sequence-len-n .result) (c .loop-i-test .taken) (c .sequence-len-n .ensures) in (
+      omega arith,
+      c .loop-i .inv .1
+          ∙ text-more (drop (c .loop-i .i) (c .args .s .now)) (c .sequence-len-n .result) (c .sequence-len-n .ensures) (c .if-n-eq0 .left)
+          ∙ ap isText (drop-drop (c .sequence-len-n .result) (c .loop-i .i) (c .args .s .now)),
+    )
 
 pub returns : need.returns
 returns c = sym (c .loop-i .inv .1 ∙ ap isText (drop-all (c .loop-i .i) (c .args .s .now) (omega arith)))

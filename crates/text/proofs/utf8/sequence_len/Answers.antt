@@ -1,8 +1,9 @@
 use mathlib.Core.Path.{sym, ap, _∙_}
+use mathlib.Core.Bool.{true, false}
 use lib.ListN.{drop}
 use Rattle.std.proofs.shelf.Lists.{drop-all}
 use Rattle.text.specs.Utf8.{sequenceLength}
-use Rattle.text.proofs.Rows.{none-left, read-unfit, read-fit, read-unlike}
+use Rattle.text.proofs.Rows.{none-left, read-turn, read-unlike}
 use Rattle.text.proofs.utf8.sequence_len.Needs as need
 
 pub returns-then-at-s : need.returns-then-at-s
@@ -16,11 +17,11 @@ loop-k-again-then-row-n c =
 pub returns-then-fits : need.returns-then-fits
 unfolding sequenceLength
 returns-then-fits c =
-    sym (c .loop-k .inv ∙ read-fit (c .args .s .now) (c .args .at) (c .loop-k .k) (c .row-at-row .result) (c .loop-k-test .taken) (c .row-at-row .ensures .ranges) (c .row-at-row .ensures .full) (c .if-fits .ensures tt) ∙ c .if-row-n .left)
+    sym (c .loop-k .inv ∙ read-turn (c .args .s .now) (c .args .at) (c .loop-k .k) (c .row-at-row .result) (c .loop-k-test .taken) (c .row-at-row .ensures .ranges) (c .row-at-row .ensures .full) true (c .if-fits .ensures tt) ∙ c .if-row-n .left)
 
 pub loop-k-again : need.loop-k-again
 loop-k-again c =
-    c .loop-k .inv ∙ read-unfit (c .args .s .now) (c .args .at) (c .loop-k .k) (c .row-at-row .result) (c .loop-k-test .taken) (c .row-at-row .ensures .ranges) (c .row-at-row .ensures .full) (c .if-fits .ensures tt)
+    c .loop-k .inv ∙ read-turn (c .args .s .now) (c .args .at) (c .loop-k .k) (c .row-at-row .result) (c .loop-k-test .taken) (c .row-at-row .ensures .ranges) (c .row-at-row .ensures .full) false (c .if-fits .ensures tt)
 
 pub returns : need.returns
 unfolding sequenceLength

@@ -1,0 +1,4 @@
+// What the commands of walqyndem do, on values alone: no file and no terminal is reached from here.
+pub mod command;
+pub mod found;
+pub mod shown;

@@ -1,0 +1,18 @@
+// Paths of nodes.
+ghost use mathlib.Core.Path.{_≡_};
+ghost use mathlib.Core.Bool.{true};
+ghost use lib.ListN.{length, take};
+ghost use Rattle.paths.specs.Paths.{isPathText, namesIn};
+mod make;
+mod order;
+
+use crate::inline::Inline;
+
+// The text of a valid path, and the number of its names.
+#[derive(Clone, Copy)]
+pub struct NodePath {
+    text: Inline<255>,
+    names: usize,
+    ghost valid: { isPathText (take (text .len) (text .bytes)) ≡ true },
+    ghost counted: { names ≡ length (namesIn (take (text .len) (text .bytes))) },
+}
