@@ -5,8 +5,13 @@ ghost use lib.ListN.{length, take};
 ghost use Rattle.paths.specs.Paths.{isPathText, namesIn};
 mod make;
 mod order;
+mod parts;
 
 use crate::inline::Inline;
+pub use order::NodePathEq;
+pub use order::NodePathOrd;
+pub use order::NodePathPartialEq;
+pub use order::NodePathPartialOrd;
 
 // The text of a valid path, and the number of its names.
 #[derive(Clone, Copy)]

@@ -96,7 +96,7 @@ impl NodePath {
 }
 
 // The path of three parts of its text one after the other.
-fn build(front: &[u8], middle: &[u8], back: &[u8], names: usize) -> Result<NodePath, PathFault>
+pub(super) fn build(front: &[u8], middle: &[u8], back: &[u8], names: usize) -> Result<NodePath, PathFault>
     requires { ⌜ (length (now front) + length (now middle) + length (now back) ≤ 255 → isPathText (now front ++ (now middle ++ now back)) ≡ true) × (names ≡ length (namesIn (now front ++ (now middle ++ now back)))) ⌝ }
     ensures { λ r. ⌜ Cases r (λ p. pathText p ≡ now (front .entry) ++ (now (middle .entry) ++ now (back .entry))) (λ e. (e ≡ PathFault.OverLimits) × (255 < length (now (front .entry)) + length (now (middle .entry)) + length (now (back .entry)))) ⌝ }
 {

@@ -3,7 +3,8 @@ ghost use mathlib.Core.Path.{_≡_};
 ghost use Prim.Native.Nat.{_≤_, _<_};
 ghost use lib.ListN.{length, getD, take};
 ghost use Rattle.text.specs.Bytes.{same, ordering};
-ghost use Rattle.paths.specs.Paths.{rank, textBefore, pathOrder};
+ghost use Rattle.std.specs.declared.option.Option.the-variants.{Some};
+ghost use Rattle.paths.specs.Paths.{samePath, rank, textBefore, pathOrder};
 ghost use Rattle.paths.specs.Values.{namesOf};
 use super::NodePath;
 use std::cmp::Ordering;
@@ -14,6 +15,32 @@ impl NodePath {
         ensures { λ r. ⌜ r ≡ pathOrder (namesOf (now (self .entry))) (namesOf (now (other .entry))) ⌝ }
     {
         compare_texts(self.text.as_bytes(), other.text.as_bytes())
+    }
+}
+
+pub impl PartialEq<NodePath> for NodePath as NodePathPartialEq {
+    ghost equals = { λ a b r. r ≡ samePath (namesOf a) (namesOf b) };
+
+    fn eq(&self, other: &NodePath) -> bool {
+        self.compare(other).is_eq()
+    }
+}
+
+pub impl Eq for NodePath as NodePathEq {}
+
+pub impl PartialOrd<NodePath> for NodePath as NodePathPartialOrd {
+    ghost compares = { λ a b r. r ≡ Some (pathOrder (namesOf a) (namesOf b)) };
+
+    fn partial_cmp(&self, other: &NodePath) -> Option<Ordering> {
+        Some(self.compare(other))
+    }
+}
+
+pub impl Ord for NodePath as NodePathOrd {
+    ghost orders = { λ a b r. r ≡ pathOrder (namesOf a) (namesOf b) };
+
+    fn cmp(&self, other: &NodePath) -> Ordering {
+        self.compare(other)
     }
 }
 
