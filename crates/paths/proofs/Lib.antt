@@ -7,3 +7,4 @@ mod Scans
 mod TextOrder
 pub mod Extends
 pub mod Values
+pub mod LastName
