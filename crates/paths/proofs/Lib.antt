@@ -5,6 +5,7 @@ pub mod PathOrder
 mod Padding
 mod Scans
 mod TextOrder
+mod KeyScans
 pub mod Extends
 pub mod Values
 pub mod LastName

@@ -1,18 +1,16 @@
 -- The keys under which a node's metadata and its chunks lie in a store, and the prefix under which all of a group lies.
 -- Assumes nothing.
 use mathlib.Core.List.{List, [], _∷_, _++_}
-use mathlib.Core.Bool.{Bool, true, false, cond}
 use Prim.Native.Nat.{ℕ}
 use lib.Chars.{codes}
 use Rattle.std.specs.declared.result.Result.{Result}
-use Rattle.std.specs.declared.result.Result.the-variants.{Ok, Err}
+use Rattle.std.specs.declared.result.Result.the-variants.{Ok}
 use Rattle.text.specs.Bytes.{Bytes}
 use Rattle.paths.specs.declared.fault.PathFault.{PathFault}
 use Rattle.paths.specs.declared.fault.StoreFault.{StoreFault}
-use Rattle.paths.specs.declared.fault.StoreFault.the-variants.{Malformed}
 use Rattle.paths.specs.declared.file.MetadataFile.{MetadataFile}
 use Rattle.paths.specs.declared.file.MetadataFile.the-variants.{ZarrJson, Zarray, Zgroup, Zattrs}
-use Rattle.paths.specs.Keys.{isKey}
+use Rattle.paths.specs.Keys.{keyOrFault}
 use Rattle.paths.specs.Paths.{Path, split, checked}
 
 abbrev pub fileName : MetadataFile → Bytes
@@ -30,9 +28,6 @@ abbrev pub metadataKey : Path → MetadataFile → Bytes
 metadataKey p f = prefixOf p ++ fileName f
 
 -- a chunk's key behind the prefix of its array; refused where that is no key
-abbrev pub keyOrFault : Bytes → Result Bytes StoreFault
-keyOrFault k = cond (isKey k) (Ok k) (Err Malformed)
-
 abbrev pub dataKey : Path → Bytes → Result Bytes StoreFault
 dataKey p chunk = keyOrFault (prefixOf p ++ chunk)
 

@@ -9,8 +9,8 @@ ghost use Rattle.paths.specs.Held.{allZero};
 
 #[derive(Clone, Copy)]
 pub struct Inline<const N: usize> {
-    bytes: [u8; N],
-    len: usize,
+    pub(crate) bytes: [u8; N],
+    pub(crate) len: usize,
     ghost few: { len ≤ N },
     ghost long: { length bytes ≡ N },
     ghost clean: { allZero (drop len bytes) ≡ true },

@@ -22,3 +22,5 @@ pub use node_path::NodePathPartialOrd;
 pub use path_row::PathRow;
 pub use store_key::StoreKey;
 pub use store_key::StorePrefix;
+pub use store_key::is_key;
+pub use store_key::is_prefix;

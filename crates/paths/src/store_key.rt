@@ -3,7 +3,11 @@ ghost use mathlib.Core.Path.{_≡_};
 ghost use mathlib.Core.Bool.{true};
 ghost use lib.ListN.{take};
 ghost use Rattle.paths.specs.Keys.{isKey, isPrefix};
+mod make;
+
 use crate::inline::Inline;
+pub use make::is_key;
+pub use make::is_prefix;
 
 // A key: 1 to 400 bytes of text, no `/` at either end and no `//`.
 #[derive(Clone, Copy)]
