@@ -9,3 +9,7 @@ mod KeyScans
 pub mod Extends
 pub mod Values
 pub mod LastName
+pub mod KeyForms
+pub mod PathKeys
+pub mod Prefixes
+mod KeyTexts

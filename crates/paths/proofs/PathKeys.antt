@@ -34,9 +34,9 @@ prefix-relative n q = ap (λ (x : Bytes). n ++ x) (prefix-slashed q) ∙ sym (ap
 pub prefix-length : (n : Name) (q : Path) → length (prefixOf (n ∷ q)) ≡ length (rendered (n ∷ q))
 prefix-length n q = ap length (prefix-relative n q) ∙ length-append (relative (n ∷ q)) (47 ∷ []) ∙ omega arith
 
-pub prefix-short : (p : Path) → inLimits p ≡ true → length (prefixOf p) ≤ 255
-prefix-short [] l = omega arith
-prefix-short (n ∷ q) l = omega (arith, prefix-length n q, few-bytes (n ∷ q) l)
+pub prefix-within : (p : Path) → inLimits p ≡ true → length (prefixOf p) ≤ 255
+prefix-within [] l = omega arith
+prefix-within (n ∷ q) l = omega (arith, prefix-length n q, few-bytes (n ∷ q) l)
 
 -- ---- names with `/` between them are a key
 
@@ -85,8 +85,8 @@ file-text Zarray = refl
 file-text Zgroup = refl
 file-text Zattrs = refl
 
-pub key-short : (p : Path) (f : MetadataFile) → inLimits p ≡ true → length (metadataKey p f) ≤ 264
-key-short p f l = omega (arith, length-append (prefixOf p) (fileName f), prefix-short p l, file-short f)
+pub key-within : (p : Path) (f : MetadataFile) → inLimits p ≡ true → length (metadataKey p f) ≤ 264
+key-within p f l = omega (arith, length-append (prefixOf p) (fileName f), prefix-within p l, file-short f)
 
 pub key-of-path : (p : Path) (f : MetadataFile) → isPath p ≡ true → isKey (metadataKey p f) ≡ true
 key-of-path p f h =
@@ -94,7 +94,7 @@ key-of-path p f h =
     let b = prefix-parts (prefixOf p) (prefix-of-path p h) in
     key-from (metadataKey p f)
     (form-in-front true (prefixOf p) (fileName f) (b .0) ∙ file-form f)
-    (omega (arith, key-short p f (a .1)))
+    (omega (arith, key-within p f (a .1)))
     (text-append (prefixOf p) (fileName f) (b .2) ∙ file-text f)
 
 -- ---- the path of a prefix
@@ -128,7 +128,7 @@ prefix-only (b ∷ t) p h e =
 
 pub path-keys-are-keys : Path-keys-are-keys
 path-keys-are-keys = record {
-  key = λ p f h. (key-of-path p f h, key-short p f (and-parts (areNames p) (inLimits p) h .1));
+  key = λ p f h. (key-of-path p f h, key-within p f (and-parts (areNames p) (inLimits p) h .1));
   prefix = prefix-of-path;
   back = prefix-back;
   only = prefix-only;

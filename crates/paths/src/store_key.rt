@@ -12,13 +12,13 @@ pub use make::is_prefix;
 // A key: 1 to 400 bytes of text, no `/` at either end and no `//`.
 #[derive(Clone, Copy)]
 pub struct StoreKey {
-    text: Inline<400>,
+    pub(crate) text: Inline<400>,
     ghost well: { isKey (take (text .len) (text .bytes)) ≡ true },
 }
 
 // A prefix: empty, or a key and `/`.
 #[derive(Clone, Copy)]
 pub struct StorePrefix {
-    text: Inline<401>,
+    pub(crate) text: Inline<401>,
     ghost well: { isPrefix (take (text .len) (text .bytes)) ≡ true },
 }

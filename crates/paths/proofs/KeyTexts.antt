@@ -1,0 +1,57 @@
+-- The texts of keys and prefixes as the code puts them together.
+-- Assumes nothing.
+use mathlib.Core.Path.{_≡_, refl, sym, _∙_, ap, subst}
+use mathlib.Core.Bool.{Bool, true, false, cond, _&&_}
+use mathlib.Core.List.{List, [], _∷_, _++_, append-assoc}
+use Prim.Native.Nat.{ℕ, _+_, _-_, _≤_, _<_}
+use native.Mathlib.Omega.{arith}
+use borrow.Author.Tests.{lt-leb}
+use lib.Dec.{leb}
+use lib.ListN.{length, take, drop, length-append, length-take, length-drop}
+use Rattle.std.specs.Options.{Cases}
+use Rattle.std.specs.declared.option.Option.{Option}
+use Rattle.std.specs.declared.option.Option.the-variants.{Some, None}
+use Rattle.std.proofs.shelf.Lists.{take-all}
+use Rattle.std.proofs.shelf.Tests.{cases-bool}
+use Rattle.text.specs.Bytes.{Bytes}
+use Rattle.text.specs.Utf8.{isText}
+use Rattle.paths.specs.Keys.{keyForm, isKey}
+use Rattle.paths.specs.MetadataKeys.{prefixOf, withoutLast, pathOfPrefix}
+use Rattle.paths.specs.Paths.{Path, isRoot, rendered, slashed, relative, split, checked}
+use Rattle.paths.proofs.KeyScans.{key-short}
+use Rattle.paths.proofs.PathKeys.{prefix-relative}
+use Rattle.paths.proofs.Readings.{never}
+
+pub by-cases : {A : Type 0} (o : Option A) (P R : Type 0) (Q S : A → Type 0) → (P → R) → ((a : A) → Q a → S a) → Cases o P Q → Cases o R S
+by-cases None P R Q S f g h = f h
+by-cases (Some a) P R Q S f g h = g a h
+
+-- a path's text without its first `/`, a `/` and more
+pub behind-first : (p : Path) (t rest : Bytes) → isRoot p ≡ false → t ≡ rendered p → take (length t - 1) (drop 1 t) ++ (47 ∷ rest) ≡ prefixOf p ++ rest
+behind-first [] t rest h e = never h
+behind-first (n ∷ q) t rest h e =
+    let r : Bytes = relative (n ∷ q) in
+    let w : take (length t - 1) (drop 1 t) ≡ r = ap (λ (u : Bytes). take (length u - 1) (drop 1 u)) e ∙ take-all (length (47 ∷ r) - 1) r (omega arith) in
+    ap (λ (u : Bytes). u ++ (47 ∷ rest)) w ∙ sym (append-assoc r (47 ∷ []) rest) ∙ ap (λ (u : Bytes). u ++ rest) (sym (prefix-relative n q))
+
+pub behind-length : (a b w : Bytes) → a ++ (47 ∷ b) ≡ w → length a + 1 + length b ≡ length w
+behind-length a b w e = sym (sym (ap length e) ∙ length-append a (47 ∷ b) ∙ omega arith)
+
+pub long-no-key : (k : Bytes) → 400 < length k → isKey k ≡ false
+long-no-key k h = (elim (isKey k) as (λ b. isKey k ≡ b → b ≡ false) [ true ↦ λ e. absurd (omega (arith, key-short k e)) | false ↦ λ e. refl ]) refl
+
+-- a prefix without its last byte
+without-last : (b : ℕ) (t : Bytes) → take (length (b ∷ t) - 1) (b ∷ t) ≡ withoutLast b t
+without-last b [] = refl
+without-last b (c ∷ t) =
+    let e : length (b ∷ (c ∷ t)) - 1 ≡ length (c ∷ t) - 1 + 1 = omega arith in
+    ap (λ (k : ℕ). take k (b ∷ (c ∷ t))) e ∙ one (length (c ∷ t) - 1) ∙ ap (λ (u : Bytes). b ∷ u) (without-last c t)
+  where
+    one : (k : ℕ) → take (k + 1) (b ∷ (c ∷ t)) ≡ b ∷ take k (c ∷ t)
+    one k = let f : k + 1 ≡ Prim.Native.Nat.suc k = omega arith in ap (λ (j : ℕ). take j (b ∷ (c ∷ t))) f
+
+pub read-prefix : (t : Bytes) → 0 < length t → checked (split (take (length t - 1 - 0) t)) (split (take (length t - 1 - 0) t)) ≡ pathOfPrefix t
+read-prefix [] h = absurd (omega arith)
+read-prefix (b ∷ t) h =
+    let e : length (b ∷ t) - 1 - 0 ≡ length (b ∷ t) - 1 = omega arith in
+    ap (λ (k : ℕ). checked (split (take k (b ∷ t))) (split (take k (b ∷ t)))) e ∙ ap (λ (u : Bytes). checked (split u) (split u)) (without-last b t)
