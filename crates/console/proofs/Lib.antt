@@ -1,2 +1,5 @@
 pub mod Words
 pub mod Showing
+pub mod Orders
+pub mod Lists
+pub mod Turns

@@ -1,3 +1,4 @@
 pub mod Asks
 pub mod Sights
 pub mod Shown
+pub mod Classes

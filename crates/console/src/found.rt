@@ -40,6 +40,12 @@ pub struct Found {
 }
 
 impl Marks {
+    pub const NONE: Marks = Marks {
+        zarr_json: false,
+        zarray: false,
+        zgroup: false,
+    };
+
     // The files are looked up in the order zarr.json, .zarray, .zgroup.
     pub fn kind(&self) -> Option<Kind>
         ensures { λ r. ⌜ r ≡ kindOf (now (self .entry)) ⌝ }

@@ -63,8 +63,8 @@ join-reads-one-text (n ∷ p) b t h e =
     let r : Path = split (b ∷ t) in
     let s : split ((n ++ slashed p) ++ (47 ∷ (b ∷ t))) ≡ (n ∷ p) ++ r = split-append (n ++ slashed p) (b ∷ t) ∙ ap (λ (x : Path). x ++ r) (split-relative n p h) in
     let w : pathOf (47 ∷ ((n ++ slashed p) ++ (47 ∷ (b ∷ t)))) ≡ checked ((n ∷ p) ++ r) ((n ∷ p) ++ r) =
-      ap (λ (x : Bytes). pathOf (47 ∷ x)) (append-assoc n (slashed p) (47 ∷ (b ∷ t)))
-      ∙ one-text n (slashed p ++ (47 ∷ (b ∷ t))) ((n ∷ p) ++ r) (name-not-periods n (names-head n p h)) (ap split (sym (append-assoc n (slashed p) (47 ∷ (b ∷ t)))) ∙ s) in
+    ap (λ (x : Bytes). pathOf (47 ∷ x)) (append-assoc n (slashed p) (47 ∷ (b ∷ t)))
+    ∙ one-text n (slashed p ++ (47 ∷ (b ∷ t))) ((n ∷ p) ++ r) (name-not-periods n (names-head n p h)) (ap split (sym (append-assoc n (slashed p) (47 ∷ (b ∷ t)))) ∙ s) in
     joined-not-slash (n ∷ p) b t e ∙ sym (together (n ∷ p) r h) ∙ sym w
 
 -- ---- one name
@@ -89,6 +89,6 @@ pub parent-undoes-join : Parent-undoes-join
 parent-undoes-join base p n h e =
     let k = name-plain n h in
     let j : joined base n ≡ checked (n ∷ []) (base ++ (n ∷ [])) =
-      ap (joined base) (sym (append-nil n)) ∙ joined-plain base n [] (n ∷ []) k (name-not-periods n h) (ap split (append-nil n) ∙ split-name n k) in
+    ap (joined base) (sym (append-nil n)) ∙ joined-plain base n [] (n ∷ []) k (name-not-periods n h) (ap split (append-nil n) ∙ split-name n k) in
     let q : base ++ (n ∷ []) ≡ p = checked-ok (n ∷ []) (base ++ (n ∷ [])) p (sym j ∙ e) .2 in
     (ap parentOf (sym q) ∙ parent-last base n, ap nameOf (sym q) ∙ name-last base n)

@@ -1,19 +1,17 @@
 -- Turns of the loop over a key's bytes, and what its answer says.
 -- Assumes nothing.
 use mathlib.Core.Path.{_≡_, refl, sym, _∙_, ap}
-use mathlib.Core.Bool.{Bool, true, false, cond, not, _&&_}
+use mathlib.Core.Bool.{Bool, true, false, cond, not}
 use mathlib.Core.List.{List, [], _∷_}
 use Prim.Native.Nat.{ℕ, _+_, _<_, _≤_}
 use native.Mathlib.Omega.{arith}
-use lib.Dec.{eqb, leb}
+use lib.Dec.{eqb}
 use lib.ListN.{length, getD, drop}
 use Rattle.std.proofs.shelf.Lists.{drop-more, drop-all}
-use Rattle.std.proofs.shelf.Tests.{and-parts, leb-true}
 use Rattle.std.specs.declared.option.Option.{Option}
 use Rattle.std.specs.declared.option.Option.the-variants.{Some, None}
 use Rattle.text.specs.Bytes.{Bytes}
-use Rattle.text.specs.Utf8.{isText}
-use Rattle.paths.specs.Keys.{keyForm, prefixForm, endsFresh, isKey, isPrefix}
+use Rattle.paths.specs.Keys.{keyForm, prefixForm, endsFresh}
 
 -- what the flag and the byte at i say
 ends-here : (f : Bool) (t : Bytes) (i : ℕ) (s : Bool) → i < length t → eqb (getD t i 0) 47 ≡ s → endsFresh f (drop i t) ≡ cond s (cond f None (endsFresh true (drop (i + 1) t))) (endsFresh false (drop (i + 1) t))
@@ -67,11 +65,3 @@ key-of f t o e = ap keyAnswer e ∙ sym (key-answer f t)
 
 pub prefix-of : (f : Bool) (t : Bytes) (o : Option Bool) → o ≡ endsFresh f t → prefixAnswer o ≡ prefixForm f t
 prefix-of f t o e = ap prefixAnswer e ∙ sym (prefix-answer f t)
-
--- ---- the limits
-
-pub key-short : (t : Bytes) → isKey t ≡ true → length t ≤ 400
-key-short t h = leb-true (length t) 400 (and-parts (leb (length t) 400) (isText t) (and-parts (keyForm true t) (leb (length t) 400 && isText t) h .1) .0)
-
-pub prefix-short : (t : Bytes) → isPrefix t ≡ true → length t ≤ 401
-prefix-short t h = leb-true (length t) 401 (and-parts (leb (length t) 401) (isText t) (and-parts (prefixForm true t) (leb (length t) 401 && isText t) h .1) .0)

@@ -1,24 +1,20 @@
 -- The texts of keys and prefixes as the code puts them together.
 -- Assumes nothing.
-use mathlib.Core.Path.{_≡_, refl, sym, _∙_, ap, subst}
-use mathlib.Core.Bool.{Bool, true, false, cond, _&&_}
+use mathlib.Core.Path.{_≡_, refl, sym, _∙_, ap}
+use mathlib.Core.Bool.{Bool, true, false}
 use mathlib.Core.List.{List, [], _∷_, _++_, append-assoc}
-use Prim.Native.Nat.{ℕ, _+_, _-_, _≤_, _<_}
+use Prim.Native.Nat.{ℕ, suc, _+_, _-_, _<_}
 use native.Mathlib.Omega.{arith}
-use borrow.Author.Tests.{lt-leb}
-use lib.Dec.{leb}
-use lib.ListN.{length, take, drop, length-append, length-take, length-drop}
+use lib.ListN.{length, take, drop, length-append}
 use Rattle.std.specs.Options.{Cases}
 use Rattle.std.specs.declared.option.Option.{Option}
 use Rattle.std.specs.declared.option.Option.the-variants.{Some, None}
 use Rattle.std.proofs.shelf.Lists.{take-all}
-use Rattle.std.proofs.shelf.Tests.{cases-bool}
 use Rattle.text.specs.Bytes.{Bytes}
-use Rattle.text.specs.Utf8.{isText}
-use Rattle.paths.specs.Keys.{keyForm, isKey}
+use Rattle.paths.specs.Keys.{isKey}
 use Rattle.paths.specs.MetadataKeys.{prefixOf, withoutLast, pathOfPrefix}
-use Rattle.paths.specs.Paths.{Path, isRoot, rendered, slashed, relative, split, checked}
-use Rattle.paths.proofs.KeyScans.{key-short}
+use Rattle.paths.specs.Paths.{Path, isRoot, rendered, relative, split, checked}
+use Rattle.paths.proofs.KeyForms.{key-parts}
 use Rattle.paths.proofs.PathKeys.{prefix-relative}
 use Rattle.paths.proofs.Readings.{never}
 
@@ -38,7 +34,7 @@ pub behind-length : (a b w : Bytes) → a ++ (47 ∷ b) ≡ w → length a + 1 +
 behind-length a b w e = sym (sym (ap length e) ∙ length-append a (47 ∷ b) ∙ omega arith)
 
 pub long-no-key : (k : Bytes) → 400 < length k → isKey k ≡ false
-long-no-key k h = (elim (isKey k) as (λ b. isKey k ≡ b → b ≡ false) [ true ↦ λ e. absurd (omega (arith, key-short k e)) | false ↦ λ e. refl ]) refl
+long-no-key k h = (elim (isKey k) as (λ b. isKey k ≡ b → b ≡ false) [ true ↦ λ e. absurd (omega (arith, key-parts k e .1)) | false ↦ λ e. refl ]) refl
 
 -- a prefix without its last byte
 without-last : (b : ℕ) (t : Bytes) → take (length (b ∷ t) - 1) (b ∷ t) ≡ withoutLast b t
@@ -48,7 +44,7 @@ without-last b (c ∷ t) =
     ap (λ (k : ℕ). take k (b ∷ (c ∷ t))) e ∙ one (length (c ∷ t) - 1) ∙ ap (λ (u : Bytes). b ∷ u) (without-last c t)
   where
     one : (k : ℕ) → take (k + 1) (b ∷ (c ∷ t)) ≡ b ∷ take k (c ∷ t)
-    one k = let f : k + 1 ≡ Prim.Native.Nat.suc k = omega arith in ap (λ (j : ℕ). take j (b ∷ (c ∷ t))) f
+    one k = let f : k + 1 ≡ suc k = omega arith in ap (λ (j : ℕ). take j (b ∷ (c ∷ t))) f
 
 pub read-prefix : (t : Bytes) → 0 < length t → checked (split (take (length t - 1 - 0) t)) (split (take (length t - 1 - 0) t)) ≡ pathOfPrefix t
 read-prefix [] h = absurd (omega arith)

@@ -13,3 +13,5 @@ pub mod KeyForms
 pub mod PathKeys
 pub mod Prefixes
 mod KeyTexts
+mod Examples
+mod Memory

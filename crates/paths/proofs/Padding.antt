@@ -11,7 +11,6 @@ use Rattle.std.proofs.shelf.Lists.{drop-replicate, take-more, drop-more, length
 use Rattle.text.specs.Bytes.{Bytes}
 use Rattle.paths.specs.Held.{allZero}
 
-
 -- one byte more
 pub one-laid : (w z : Bytes) (i : ℕ) → i < length w → i < length z → set (take i w ++ drop i z) i (getD w i 0) ≡ take (i + 1) w ++ drop (i + 1) z
 one-laid w z i hw hz =

@@ -74,7 +74,7 @@ pub more-parts : (t : Bytes) (at end : ℕ) → at ≤ end → end < length t �
     → split (drop at t) ≡ take (end - at) (drop at t) ∷ split (drop (end + 1) t)
 more-parts t at end h l s p =
     let e : drop at t ≡ take (end - at) (drop at t) ++ (47 ∷ drop (end + 1) t) =
-      part-whole t at end h ∙ ap (λ (u : Bytes). take (end - at) (drop at t) ++ u) (drop-more t end 0 l ∙ ap (λ (b : ℕ). b ∷ drop (end + 1) t) s) in
+    part-whole t at end h ∙ ap (λ (u : Bytes). take (end - at) (drop at t) ++ u) (drop-more t end 0 l ∙ ap (λ (b : ℕ). b ∷ drop (end + 1) t) s) in
     ap split e ∙ split-more (take (end - at) (drop at t)) (drop (end + 1) t) p
 
 pub split-here : (t : Bytes) (at end : ℕ) → at ≤ end → end ≤ length t → noSlash (take (end - at) (drop at t)) ≡ true → (end < length t → getD t end 0 ≡ 47)

@@ -65,9 +65,9 @@ split-more (b ∷ n) t h = rw (plain-head b n h, split-more n t (plain-tail b n 
 pub split-some : (t : Bytes) → (n : Bytes) × (p : List Bytes) × (split t ≡ n ∷ p)
 split-some [] = ([], [], refl)
 split-some (b ∷ t) = (elim (eqb b 47) as (λ x. (n : Bytes) × (p : List Bytes) × (cond x ([] ∷ split t) (onto b (split t)) ≡ n ∷ p)) [
-      | true ↦ ([], split t, refl)
-      | false ↦ let s = split-some t in (b ∷ (s .0), s .1, ap (onto b) (s .2))
-    ])
+  | true ↦ ([], split t, refl)
+  | false ↦ let s = split-some t in (b ∷ (s .0), s .1, ap (onto b) (s .2))
+])
 
 onto-append : (b : ℕ) (t : Bytes) (q : List Bytes) → onto b (split t ++ q) ≡ onto b (split t) ++ q
 onto-append b t q = let s = split-some t in rw (s .2) refl
@@ -96,9 +96,9 @@ slashed-split t = let s = split-some t in rw (s .2) refl
 pub relative-split : (t : Bytes) → relative (split t) ≡ t
 relative-split [] = refl
 relative-split (b ∷ t) = (elim (eqb b 47) as (λ x. eqb b 47 ≡ x → relative (cond x ([] ∷ split t) (onto b (split t))) ≡ b ∷ t) [
-      | true ↦ λ e. let q : b ≡ 47 = grind (arith, tells) in slashed-split t ∙ ap (λ (z : Bytes). 47 ∷ z) (relative-split t) ∙ ap (λ (z : ℕ). z ∷ t) (sym q)
-      | false ↦ λ e. relative-onto b t ∙ ap (λ (z : Bytes). b ∷ z) (relative-split t)
-    ]) refl
+  | true ↦ λ e. let q : b ≡ 47 = grind (arith, tells) in slashed-split t ∙ ap (λ (z : Bytes). 47 ∷ z) (relative-split t) ∙ ap (λ (z : ℕ). z ∷ t) (sym q)
+  | false ↦ λ e. relative-onto b t ∙ ap (λ (z : Bytes). b ∷ z) (relative-split t)
+]) refl
 
 pub slashed-append : (p q : Path) → slashed (p ++ q) ≡ slashed p ++ slashed q
 slashed-append [] q = refl

@@ -5,4 +5,6 @@ pub mod MetadataKeys
 pub mod Laws
 pub mod Held
 pub mod Values
+pub mod Memory
 pub mod Faults
+pub mod Examples

@@ -21,7 +21,10 @@ impl<const N: usize> Inline<N> {
     pub fn of(front: &[u8], middle: &[u8], back: &[u8]) -> Option<Inline<N>>
         ensures { λ r. ⌜ BySome r (N < length (now (front .entry)) + length (now (middle .entry)) + length (now (back .entry))) (λ v. take (v .len) (v .bytes) ≡ now (front .entry) ++ (now (middle .entry) ++ now (back .entry))) ⌝ }
     {
-        if front.len() > N || middle.len() > N - front.len() || back.len() > N - front.len() - middle.len() {
+        if front.len() > N
+            || middle.len() > N - front.len()
+            || back.len() > N - front.len() - middle.len()
+        {
             return None;
         }
         let len = front.len() + middle.len() + back.len();

@@ -3,6 +3,7 @@ ghost use mathlib.Core.Path.{_≡_};
 ghost use mathlib.Core.Bool.{true};
 ghost use lib.ListN.{length, take};
 ghost use Rattle.paths.specs.Paths.{isPathText, namesIn};
+
 mod convert;
 mod make;
 mod order;

@@ -3,6 +3,7 @@ ghost use mathlib.Core.Path.{_≡_};
 ghost use mathlib.Core.Bool.{true};
 ghost use lib.ListN.{take};
 ghost use Rattle.paths.specs.Keys.{isKey, isPrefix};
+
 mod make;
 
 use crate::inline::Inline;

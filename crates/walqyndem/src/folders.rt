@@ -6,6 +6,7 @@ use console::found;
 use console::found::Found;
 use console::found::Marks;
 use console::found::Sight;
+use console::listing;
 use std::alloc::AllocError;
 use std::fs;
 use std::io;
@@ -101,8 +102,11 @@ impl Walk<'_> {
         }
     }
 
-    // Notes a folder, which is read later if it is a node's.
+    // Notes a folder, which is read later if it is a node's. Where no node can be, it is not looked into.
     fn see_folder(&mut self, path: String) -> Result<(), Failure> {
+        if !listing::is_allowed(path.as_bytes()) {
+            return self.note(path, Sight::Folder(Marks::NONE));
+        }
         let marks = self.marks(path.as_str())?;
         if marks.kind().is_some() {
             self.pending.push(path.clone()?)?;

@@ -5,6 +5,8 @@ mod folders;
 use console::command;
 use console::command::Command;
 use console::command::UsageFaultDisplay;
+use console::listing;
+use console::report;
 use console::shown;
 use failure::Failure;
 use failure::FailureDisplay;
@@ -31,9 +33,11 @@ fn run(rt: &LibcRuntime) -> Result<(), Failure> {
 }
 
 fn classes(rt: &LibcRuntime, archive: &str) -> Result<(), Failure> {
+    let heap = rt.alloc();
     let found = folders::find(rt, archive)?;
-    let count = found.len();
-    println!(rt, "{count} folders")?;
+    let list = listing::class_list(heap, found.as_slice())?;
+    let text = report::report(heap, archive, &list)?;
+    rt.stdout().write_all(text.as_slice())?;
     Ok(())
 }
 

@@ -71,7 +71,11 @@ impl NodePath {
     pub(crate) fn stem(&self) -> &[u8]
         ensures { λ r. ⌜ now r ≡ slashed (namesOf (now (self .entry))) ⌝ }
     {
-        if self.is_root() { &[] } else { self.text.as_bytes() }
+        if self.is_root() {
+            &[]
+        } else {
+            self.text.as_bytes()
+        }
     }
 
     pub fn is_root(&self) -> bool
@@ -96,7 +100,12 @@ impl NodePath {
 }
 
 // The path of three parts of its text one after the other.
-pub(super) fn build(front: &[u8], middle: &[u8], back: &[u8], names: usize) -> Result<NodePath, PathFault>
+pub(super) fn build(
+    front: &[u8],
+    middle: &[u8],
+    back: &[u8],
+    names: usize,
+) -> Result<NodePath, PathFault>
     requires { ⌜ (length (now front) + length (now middle) + length (now back) ≤ 255 → isPathText (now front ++ (now middle ++ now back)) ≡ true) × (names ≡ length (namesIn (now front ++ (now middle ++ now back)))) ⌝ }
     ensures { λ r. ⌜ Cases r (λ p. pathText p ≡ now (front .entry) ++ (now (middle .entry) ++ now (back .entry))) (λ e. (e ≡ PathFault.OverLimits) × (255 < length (now (front .entry)) + length (now (middle .entry)) + length (now (back .entry)))) ⌝ }
 {

@@ -50,7 +50,11 @@ fn compare_texts(a: &[u8], b: &[u8]) -> Ordering
 {
     let n = shared_len(a, b);
     if n == a.len() {
-        return if n == b.len() { Ordering::Equal } else { Ordering::Less };
+        return if n == b.len() {
+            Ordering::Equal
+        } else {
+            Ordering::Less
+        };
     }
     if n == b.len() {
         return Ordering::Greater;

@@ -57,6 +57,6 @@ returns c =
     let i : ℕ = c .last-slash-end .result in
     let f = front v t i (c .as-bytes-text .ensures) (c .last-slash-end .ensures .within) (c .last-slash-end .ensures .stands) (c .last-slash-end .ensures .plain) (sym (c .if-is-root .ensures tt)) (omega arith) in
     let l : length (take (i - 0) t) + 0 + 0 ≤ 255 =
-      omega (arith, length-take (i - 0) t, few-bytes (namesOf v) (within v), ap length (written v), ap length (c .as-bytes-text .ensures)) in
+    omega (arith, length-take (i - 0) t, few-bytes (namesOf v) (within v), ap length (written v), ap length (c .as-bytes-text .ensures)) in
     ap pathIfAny (c .ok .ensures .value) ∙ built (c .build .result) (take (i - 0) t ++ []) (length (take (i - 0) t) + 0 + 0) (c .build .ensures) l
     ∙ ap (λ (u : Bytes). Some (namesIn u)) (whole t i) ∙ sym (f .0)
