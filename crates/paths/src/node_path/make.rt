@@ -90,13 +90,6 @@ impl NodePath {
     {
         self.text.as_bytes()
     }
-
-    // The number of its names.
-    pub fn depth(&self) -> usize
-        ensures { λ r. ⌜ r ≡ length (namesOf (now (self .entry))) ⌝ }
-    {
-        self.names
-    }
 }
 
 // The path of three parts of its text one after the other.

@@ -1,5 +1,6 @@
-// The parent and the name of a path.
+// The parent of a path, its name and the number of its names.
 ghost use mathlib.Core.Path.{_≡_};
+ghost use lib.ListN.{length};
 ghost use Rattle.paths.specs.Paths.{parentOf, nameOf};
 ghost use Rattle.paths.specs.Values.{namesOf, pathIfAny};
 use super::NodePath;
@@ -29,5 +30,12 @@ impl NodePath {
         let text = self.text.as_bytes();
         let end = last_slash(text);
         &text[end + 1..]
+    }
+
+    // The number of its names.
+    pub fn depth(&self) -> usize
+        ensures { λ r. ⌜ r ≡ length (namesOf (now (self .entry))) ⌝ }
+    {
+        self.names
     }
 }
