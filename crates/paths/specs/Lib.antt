@@ -1,10 +1,7 @@
 pub mod Names
 pub mod Paths
-pub mod Keys
-pub mod MetadataKeys
 pub mod Laws
 pub mod Held
 pub mod Values
 pub mod Memory
 pub mod Faults
-pub mod Examples

@@ -1,4 +1,4 @@
--- What the values of the code mean: the text that a path, a key or a row holds, and the names of a path.
+-- What the values of the code mean: the text that a path or a row holds, and the names of a path.
 -- Assumes nothing.
 use mathlib.Core.Bool.{Bool, true, false}
 use mathlib.Core.List.{List, [], _∷_}
@@ -9,11 +9,8 @@ use Rattle.std.specs.declared.result.Result.{Result}
 use Rattle.std.specs.declared.result.Result.the-variants.{Ok, Err}
 use Rattle.text.specs.Bytes.{Bytes}
 use Rattle.paths.specs.declared.fault.PathFault.{PathFault}
-use Rattle.paths.specs.declared.fault.StoreFault.{StoreFault}
 use Rattle.paths.specs.declared.node_path.NodePath.{NodePath}
 use Rattle.paths.specs.declared.path_row.PathRow.{PathRow}
-use Rattle.paths.specs.declared.store_key.StoreKey.{StoreKey}
-use Rattle.paths.specs.declared.store_key.StorePrefix.{StorePrefix}
 use Rattle.paths.specs.Paths.{Path, namesIn}
 
 abbrev pub pathText : NodePath → Bytes
@@ -25,12 +22,6 @@ namesOf v = namesIn (pathText v)
 abbrev pub rowText : PathRow → Bytes
 rowText r = take (r .len) (r .bytes)
 
-abbrev pub keyText : StoreKey → Bytes
-keyText k = take (k .text .len) (k .text .bytes)
-
-abbrev pub prefixText : StorePrefix → Bytes
-prefixText k = take (k .text .len) (k .text .bytes)
-
 -- an answer of the code, read so
 abbrev pub pathIn : Result NodePath PathFault → Result Path PathFault
 pathIn (Ok v) = Ok (namesOf v)
@@ -39,11 +30,3 @@ pathIn (Err e) = Err e
 abbrev pub pathIfAny : Option NodePath → Option Path
 pathIfAny (Some v) = Some (namesOf v)
 pathIfAny None = None
-
-abbrev pub keyIn : Result StoreKey StoreFault → Result Bytes StoreFault
-keyIn (Ok k) = Ok (keyText k)
-keyIn (Err e) = Err e
-
-abbrev pub prefixIn : Result StorePrefix StoreFault → Result Bytes StoreFault
-prefixIn (Ok k) = Ok (prefixText k)
-prefixIn (Err e) = Err e

@@ -1,5 +1,5 @@
-// What the path layer and the key rules refuse.
-ghost use Rattle.paths.specs.Faults.{toldOfPath, toldOfStore};
+// What the path layer refuses.
+ghost use Rattle.paths.specs.Faults.{toldOfPath};
 use text::Fault;
 use text::FaultReport;
 use text::Layer;
@@ -9,12 +9,6 @@ use text::Layer;
 pub enum PathFault {
     Invalid,
     OverLimits,
-}
-
-// What a store refuses: a malformed key or prefix.
-#[derive(Clone, Copy, PartialEq, Eq, Debug)]
-pub enum StoreFault {
-    Malformed,
 }
 
 pub impl Fault for PathFault as PathFaultTold {
@@ -28,21 +22,6 @@ pub impl Fault for PathFault as PathFaultTold {
         FaultReport {
             number,
             layer: Layer::Path,
-            position: 0,
-        }
-    }
-}
-
-pub impl Fault for StoreFault as StoreFaultTold {
-    ghost told = { λ e. toldOfStore e };
-
-    fn report(&self) -> FaultReport {
-        let number = match self {
-            StoreFault::Malformed => 13,
-        };
-        FaultReport {
-            number,
-            layer: Layer::Store,
             position: 0,
         }
     }

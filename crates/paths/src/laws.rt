@@ -1,7 +1,6 @@
-// What the definitions of paths and keys amount to. Each function's contract is a theorem, and its proof is asked for by that.
-ghost use Rattle.paths.specs.Examples.{Examples};
+// What the definitions of paths amount to. Each function's contract is a theorem, and its proof is asked for by that.
 ghost use Rattle.paths.specs.Memory.{Same-names-same-memory};
-ghost use Rattle.paths.specs.Laws.{Reads-what-is-spelled, Splitting-undoes-writing, Join-undoes-relative, Join-reads-one-text, Parent-undoes-join, Path-order-is-total, Texts-compare-as-paths, Key-and-prefix-forms, Path-keys-are-keys, Keys-under-prefix, Keys-differ};
+ghost use Rattle.paths.specs.Laws.{Reads-what-is-spelled, Splitting-undoes-writing, Join-undoes-relative, Join-reads-one-text, Parent-undoes-join, Path-order-is-total, Texts-compare-as-paths};
 
 // A text is read as the path that it spells, and refused as invalid or over the limits exactly where it spells none or none within them.
 pub fn reads_what_is_spelled() -> u8
@@ -52,44 +51,9 @@ pub fn texts_compare_as_paths() -> u8
     0
 }
 
-// A key has no empty part, and a prefix is empty, or a key and `/`.
-pub fn key_and_prefix_forms() -> u8
-    ensures { λ _. ⌜ Key-and-prefix-forms ⌝ }
-{
-    0
-}
-
-// The metadata keys and the prefix of a valid path are a store's keys and prefixes, and a path is read back from its prefix.
-pub fn path_keys_are_keys() -> u8
-    ensures { λ _. ⌜ Path-keys-are-keys ⌝ }
-{
-    0
-}
-
-// A metadata key begins with a group's prefix exactly if its path is the group's or lies below it.
-pub fn keys_under_prefix() -> u8
-    ensures { λ _. ⌜ Keys-under-prefix ⌝ }
-{
-    0
-}
-
-// Metadata keys of different paths or files differ.
-pub fn keys_differ() -> u8
-    ensures { λ _. ⌜ Keys-differ ⌝ }
-{
-    0
-}
-
 // Two path values with the same names are the same in memory.
 pub fn same_names_same_memory() -> u8
     ensures { λ _. ⌜ Same-names-same-memory ⌝ }
-{
-    0
-}
-
-// A table of cases.
-pub fn examples_hold() -> u8
-    ensures { λ _. ⌜ Examples ⌝ }
 {
     0
 }

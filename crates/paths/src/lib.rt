@@ -1,34 +1,18 @@
-// Names, paths and keys of a Zarr hierarchy.
+// Names and paths of a Zarr hierarchy.
 mod fault;
-mod file;
 mod inline;
-mod key;
 mod laws;
 mod node_name;
 mod node_path;
 mod path_row;
 mod slashes;
-mod store_key;
 
 pub use fault::PathFault;
 pub use fault::PathFaultTold;
-pub use fault::StoreFault;
-pub use fault::StoreFaultTold;
-pub use file::MetadataFile;
-pub use key::data_key;
-pub use key::meta_key;
-pub use key::meta_key_v2_array;
-pub use key::meta_key_v2_attributes;
-pub use key::meta_key_v2_group;
-pub use key::meta_key_v3;
-pub use laws::examples_hold;
+pub use inline::Inline;
 pub use laws::join_reads_one_text;
 pub use laws::join_undoes_relative;
-pub use laws::key_and_prefix_forms;
-pub use laws::keys_differ;
-pub use laws::keys_under_prefix;
 pub use laws::parent_undoes_join;
-pub use laws::path_keys_are_keys;
 pub use laws::path_order_is_total;
 pub use laws::reads_what_is_spelled;
 pub use laws::same_names_same_memory;
@@ -41,7 +25,3 @@ pub use node_path::NodePathOrd;
 pub use node_path::NodePathPartialEq;
 pub use node_path::NodePathPartialOrd;
 pub use path_row::PathRow;
-pub use store_key::StoreKey;
-pub use store_key::StorePrefix;
-pub use store_key::is_key;
-pub use store_key::is_prefix;

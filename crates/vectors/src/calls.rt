@@ -1,12 +1,12 @@
 // The calls that vectors name, and their answers as text.
+use keys::StoreFault;
+use keys::StoreFaultTold;
+use keys::StoreKey;
+use keys::StorePrefix;
 use paths::NodeName;
 use paths::NodePath;
 use paths::PathFault;
 use paths::PathFaultTold;
-use paths::StoreFault;
-use paths::StoreFaultTold;
-use paths::StoreKey;
-use paths::StorePrefix;
 use std::alloc::AllocError;
 use std::alloc::Global;
 use std::cmp::Ordering;
@@ -57,7 +57,10 @@ fn refused<F: Fault>(heap: Global, fault: &F) -> Result<Vec<u8>, AllocError> {
     let number = told.number;
     let layer = told.layer.name();
     let position = told.position;
-    said(heap, format!(heap, "fault {number} {layer} {position}")?.as_str())
+    said(
+        heap,
+        format!(heap, "fault {number} {layer} {position}")?.as_str(),
+    )
 }
 
 fn path_answer(heap: Global, answer: Result<NodePath, PathFault>) -> Result<Vec<u8>, AllocError> {
@@ -89,8 +92,8 @@ fn one(heap: Global, call: &[u8], a: &[u8]) -> Result<Vec<u8>, AllocError> {
         b"parent" => parent(heap, a),
         b"last-name" => last_name(heap, a),
         b"depth" => depth(heap, a),
-        b"is-key" => yes_or_no(heap, paths::is_key(a)),
-        b"is-prefix" => yes_or_no(heap, paths::is_prefix(a)),
+        b"is-key" => yes_or_no(heap, keys::is_key(a)),
+        b"is-prefix" => yes_or_no(heap, keys::is_prefix(a)),
         b"prefix" => prefix(heap, a),
         b"from-prefix" => from_prefix(heap, a),
         _ => said(heap, "unknown"),
@@ -117,16 +120,18 @@ fn through_row(path: &[u8]) -> Result<NodePath, PathFault> {
 
 fn meta_key(file: &[u8], path: &[u8]) -> Result<StoreKey, Refusal> {
     let path = NodePath::new(path)?;
-    Ok(match file {
-        b"v3" => paths::meta_key_v3(&path),
-        b"array" => paths::meta_key_v2_array(&path),
-        b"group" => paths::meta_key_v2_group(&path),
-        _ => paths::meta_key_v2_attributes(&path),
-    })
+    Ok(
+        match file {
+            b"v3" => keys::meta_key_v3(&path),
+            b"array" => keys::meta_key_v2_array(&path),
+            b"group" => keys::meta_key_v2_group(&path),
+            _ => keys::meta_key_v2_attributes(&path),
+        },
+    )
 }
 
 fn data_key(path: &[u8], chunk: &[u8]) -> Result<StoreKey, Refusal> {
-    Ok(paths::data_key(&NodePath::new(path)?, chunk)?)
+    Ok(keys::data_key(&NodePath::new(path)?, chunk)?)
 }
 
 fn parent(heap: Global, a: &[u8]) -> Result<Vec<u8>, AllocError> {
@@ -159,14 +164,14 @@ fn depth(heap: Global, a: &[u8]) -> Result<Vec<u8>, AllocError> {
 fn prefix(heap: Global, a: &[u8]) -> Result<Vec<u8>, AllocError> {
     match NodePath::new(a) {
         Err(fault) => refused(heap, &fault),
-        Ok(path) => granted(heap, path.prefix().as_bytes()),
+        Ok(path) => granted(heap, keys::prefix_of(&path).as_bytes()),
     }
 }
 
 fn from_prefix(heap: Global, a: &[u8]) -> Result<Vec<u8>, AllocError> {
     match StorePrefix::new(a) {
         Err(fault) => refused(heap, &fault),
-        Ok(prefix) => path_answer(heap, NodePath::from_prefix(&prefix)),
+        Ok(prefix) => path_answer(heap, keys::path_of_prefix(&prefix)),
     }
 }
 

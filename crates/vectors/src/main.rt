@@ -59,7 +59,10 @@ fn run_line(heap: Global, line: &str) -> Result<Outcome, AllocError> {
         }
     }
     let got = answer(heap, call.as_slice())?;
-    if text::equal(got.as_slice(), spaced(heap, expected.as_slice())?.as_slice()) {
+    if text::equal(
+        got.as_slice(),
+        spaced(heap, expected.as_slice())?.as_slice(),
+    ) {
         return Ok(Outcome::Agrees);
     }
     Ok(Outcome::Differs {
@@ -95,5 +98,9 @@ fn main(rt: LibcRuntime) -> Result<(), Failure> {
         }
     }
     println!(rt, "{agree} vectors agree, {differ} differ")?;
-    if differ > 0 { Err(Failure::Vectors(differ)) } else { Ok(()) }
+    if differ > 0 {
+        Err(Failure::Vectors(differ))
+    } else {
+        Ok(())
+    }
 }

@@ -55,7 +55,7 @@ impl NodePath {
     }
 
     // The path with the names of a text, at least one, behind its own.
-    pub(crate) fn with_names(&self, names: &[u8]) -> Result<NodePath, PathFault>
+    fn with_names(&self, names: &[u8]) -> Result<NodePath, PathFault>
         ensures { λ r. ⌜ pathIn r ≡ checked (split (now (names .entry))) (namesOf (now (self .entry)) ++ split (now (names .entry))) ⌝ }
     {
         let Some(count) = count_names(names) else {
@@ -68,7 +68,7 @@ impl NodePath {
     }
 
     // The text, as each of its names after a `/`: nothing for `/`.
-    pub(crate) fn stem(&self) -> &[u8]
+    fn stem(&self) -> &[u8]
         ensures { λ r. ⌜ now r ≡ slashed (namesOf (now (self .entry))) ⌝ }
     {
         if self.is_root() {

@@ -1,5 +1,0 @@
-use Rattle.paths.proofs.KeyForms.{key-and-prefix-forms}
-use Rattle.paths.proofs.laws.key_and_prefix_forms.Needs as need
-
-pub returns : need.returns
-returns c = key-and-prefix-forms

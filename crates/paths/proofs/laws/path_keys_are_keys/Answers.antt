@@ -1,5 +1,0 @@
-use Rattle.paths.proofs.PathKeys.{path-keys-are-keys}
-use Rattle.paths.proofs.laws.path_keys_are_keys.Needs as need
-
-pub returns : need.returns
-returns c = path-keys-are-keys

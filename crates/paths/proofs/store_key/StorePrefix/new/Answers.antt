@@ -1,7 +1,0 @@
-use mathlib.Core.Path.{sym}
-use native.Mathlib.Omega.{arith}
-use Rattle.paths.proofs.KeyForms.{prefix-parts}
-use Rattle.paths.proofs.store_key.StorePrefix.new.Needs as need
-
-pub returns-in-None : need.returns-in-None
-returns-in-None c = absurd (omega (arith, prefix-parts (c .args .text .now) (sym (c .if-not-is-prefix .ensures tt)) .1, c .in-None .ensures tt))
