@@ -4,7 +4,6 @@ pub mod Joins
 pub mod PathOrder
 mod Padding
 mod Scans
-mod TextOrder
 pub mod Extends
 pub mod Values
 pub mod LastName

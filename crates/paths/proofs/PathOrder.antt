@@ -12,6 +12,7 @@ use Rattle.std.proofs.shelf.Tests.{and-parts, and-from}
 use Rattle.std.proofs.shelf.Ways.{tells}
 use Rattle.text.specs.Bytes.{Bytes, same, before}
 use Rattle.text.proofs.Order.{same-refl, same-eq, before-trans, before-alone, before-either}
+use Rattle.text.proofs.Shared.{bools-agree}
 use Rattle.paths.specs.Names.{noSlash, isName}
 use Rattle.paths.specs.Paths.{Name, Path, areNames, slashed, rendered, samePath, pathBefore, rank, textBefore}
 use Rattle.paths.specs.Laws.{Path-order-is-total, Texts-compare-as-paths}
@@ -137,11 +138,6 @@ texts-before [] [] hp hq = refl
 texts-before [] (m ∷ q) hp hq = root-first m (slashed q) (names-head m q hq)
 texts-before (n ∷ p) [] hp hq = root-last n (slashed p) (names-head n p hp)
 texts-before (n ∷ p) (m ∷ q) hp hq = slashed-compare (n ∷ p) (m ∷ q) hp hq
-
-pub bools-agree : (a b : Bool) → (a ≡ true → b ≡ true) → (b ≡ true → a ≡ true) → a ≡ b
-bools-agree true b f g = sym (f refl)
-bools-agree false true f g = g refl
-bools-agree false false f g = refl
 
 texts-same : (p q : Path) → areNames p ≡ true → areNames q ≡ true → same (rendered p) (rendered q) ≡ samePath p q
 texts-same p q hp hq =

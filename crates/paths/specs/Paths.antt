@@ -5,7 +5,7 @@ use mathlib.Core.Path.{_≡_}
 use mathlib.Core.Bool.{Bool, true, false, cond, _&&_}
 use mathlib.Core.List.{List, [], _∷_, _++_}
 use Prim.Native.Nat.{ℕ, _+_}
-use lib.Dec.{eqb, leb, ltb}
+use lib.Dec.{eqb, leb}
 use lib.ListN.{length}
 use Rattle.std.specs.Results.{isOk}
 use Rattle.std.specs.declared.cmp.Ordering.{Ordering}
@@ -13,7 +13,7 @@ use Rattle.std.specs.declared.option.Option.{Option}
 use Rattle.std.specs.declared.option.Option.the-variants.{Some, None}
 use Rattle.std.specs.declared.result.Result.{Result}
 use Rattle.std.specs.declared.result.Result.the-variants.{Ok, Err}
-use Rattle.text.specs.Bytes.{Bytes, same, before, ordering}
+use Rattle.text.specs.Bytes.{Bytes, same, before, beforeBy, ordering}
 use Rattle.paths.specs.declared.fault.PathFault.{PathFault}
 use Rattle.paths.specs.declared.fault.PathFault.the-variants.{Invalid, OverLimits}
 use Rattle.paths.specs.Names.{isName}
@@ -156,7 +156,4 @@ abbrev pub rank : ℕ → ℕ
 rank b = cond (eqb b 47) 0 (b + 1)
 
 abbrev pub textBefore : Bytes → Bytes → Bool
-textBefore [] [] = false
-textBefore [] (y ∷ ys) = true
-textBefore (x ∷ xs) [] = false
-textBefore (x ∷ xs) (y ∷ ys) = cond (eqb x y) (textBefore xs ys) (ltb (rank x) (rank y))
+textBefore a b = beforeBy rank a b

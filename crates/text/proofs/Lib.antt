@@ -3,4 +3,4 @@ pub mod Texts
 pub mod Rows
 pub mod Tables
 pub mod Scalars
-mod Walks
+pub mod Shared

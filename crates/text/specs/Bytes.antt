@@ -26,12 +26,22 @@ before [] (y ∷ ys) = true
 before (x ∷ xs) [] = false
 before (x ∷ xs) (y ∷ ys) = cond (eqb x y) (before xs ys) (ltb x y)
 
+-- the same where each byte counts by a rank of its own
+abbrev pub beforeBy : (ℕ → ℕ) → Bytes → Bytes → Bool
+beforeBy rank [] [] = false
+beforeBy rank [] (y ∷ ys) = true
+beforeBy rank (x ∷ xs) [] = false
+beforeBy rank (x ∷ xs) (y ∷ ys) = cond (eqb x y) (beforeBy rank xs ys) (ltb (rank x) (rank y))
+
 -- the same as an answer of three
 abbrev pub ordering : Bool → Bool → Ordering
 ordering equal less = cond equal Equal (cond less Less Greater)
 
 abbrev pub byteOrder : Bytes → Bytes → Ordering
 byteOrder a b = ordering (same a b) (before a b)
+
+abbrev pub orderBy : (ℕ → ℕ) → Bytes → Bytes → Ordering
+orderBy rank a b = ordering (same a b) (beforeBy rank a b)
 
 -- what is left of a text after a prefix, or none if it does not begin so
 abbrev pub stripped : Bytes → Bytes → Option Bytes

@@ -4,9 +4,14 @@ mod fault;
 mod laws;
 mod utf8;
 
+pub use bytes::ByValue;
+pub use bytes::ByValueRank;
+pub use bytes::ByteRank;
 pub use bytes::begins_with;
 pub use bytes::compare;
+pub use bytes::compare_by;
 pub use bytes::equal;
+pub use bytes::shared_len;
 pub use fault::Fault;
 pub use fault::FaultReport;
 pub use fault::Layer;

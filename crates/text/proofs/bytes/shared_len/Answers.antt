@@ -1,6 +1,6 @@
 use native.Mathlib.Omega.{arith}
 use Rattle.std.proofs.shelf.Lists.{take-more-same}
-use Rattle.paths.proofs.node_path.order.shared_len.Needs as need
+use Rattle.text.proofs.bytes.shared_len.Needs as need
 
 pub loop-n-again : need.loop-n-again
 loop-n-again c =
