@@ -3,3 +3,4 @@ pub mod Showing
 pub mod Orders
 pub mod Lists
 pub mod Turns
+pub mod Pieces

@@ -70,11 +70,11 @@ map-append f [] ys = refl
 map-append f (x ∷ xs) ys = ap (λ l. f x ∷ l) (map-append f xs ys)
 
 -- the element that a turn reads, in front of the rest
-ahead : {X Y : Type 0} (f : X → Y) (xs : List X) (i : ℕ) (x : X) → i < length xs → x ≡ getD xs i x → map f (drop i xs) ≡ f x ∷ map f (drop (i + 1) xs)
+pub ahead : {X Y : Type 0} (f : X → Y) (xs : List X) (i : ℕ) (x : X) → i < length xs → x ≡ getD xs i x → map f (drop i xs) ≡ f x ∷ map f (drop (i + 1) xs)
 ahead f xs i x h e = ap (map f) (drop-more xs i x h) ∙ ap (λ y. f y ∷ map f (drop (i + 1) xs)) (sym e)
 
 -- what was made, with what one more element gives behind it, is the whole as before
-grown : {Y : Type 0} (made new part rest left all : List Y) → new ≡ made ++ part → left ≡ part ++ rest → made ++ left ≡ all → new ++ rest ≡ all
+pub grown : {Y : Type 0} (made new part rest left all : List Y) → new ≡ made ++ part → left ≡ part ++ rest → made ++ left ≡ all → new ++ rest ≡ all
 grown made new part rest left all e f h = ap (λ l. l ++ rest) e ∙ append-assoc made part rest ∙ ap (λ l. made ++ l) (sym f) ∙ h
 
 pub ended : {X Y Z : Type 0} (F : List Y → List Z) (f : X → Y) (made all : List Z) (xs : List X) (i : ℕ) → F [] ≡ [] → length xs ≤ i → made ++ F (map f (drop i xs)) ≡ all → made ≡ all

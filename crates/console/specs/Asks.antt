@@ -1,6 +1,6 @@
 -- What the words of a command line ask for. Assumes nothing.
 use mathlib.Core.Bool.{cond}
-use mathlib.Core.List.{List, [], _∷_}
+use mathlib.Core.List.{List, [], _∷_, _++_}
 use Prim.Native.Nat.{ℕ}
 use lib.Chars.{codes}
 use Rattle.std.specs.declared.result.Result.{Result}
@@ -43,3 +43,10 @@ heard (Err NoCommand) = nothing
 heard (Err (UnknownCommand w)) = unknown (w .now)
 heard (Err NoArchive) = no-archive
 heard (Err (TooMany w)) = too-many (w .now)
+
+-- what is said of a command line that is refused
+abbrev pub complaint : UsageFault → List ℕ
+complaint NoCommand = codes "no command was given"
+complaint (UnknownCommand w) = codes "unknown command '" ++ (w .now ++ codes "'")
+complaint NoArchive = codes "classes needs an ARCHIVE"
+complaint (TooMany w) = codes "too many words: '" ++ (w .now ++ codes "' is not expected")

@@ -14,6 +14,12 @@ use Rattle.console.specs.declared.found.Kind.the-variants.{Version3, Array2, G
 abbrev pub kindOf : Marks → Option Kind
 kindOf m = cond (m .«zarr_json») (Some Version3) (cond (m .zarray) (Some Array2) (cond (m .zgroup) (Some Group2) None))
 
+-- as reports write it
+abbrev pub kindName : Kind → List ℕ
+kindName Version3 = codes "v3 node"
+kindName Array2 = codes "v2 array"
+kindName Group2 = codes "v2 group"
+
 -- a name behind the path of its folder: one `/` stands between them, and `/` itself ends with it
 abbrev pub under : List ℕ → List ℕ → List ℕ
 under folder name = cond (sameBytes folder (codes "/")) (47 ∷ name) (folder ++ (47 ∷ name))

@@ -2,7 +2,8 @@
 ghost use mathlib.Core.Path.{_≡_};
 ghost use mathlib.Core.List.{map};
 ghost use Rattle.std.specs.Of.String.{string-bytes};
-ghost use Rattle.console.specs.Asks.{asked, helpAsked, classesAsked, heard};
+ghost use Rattle.std.specs.declared.option.Option.the-variants.{Some};
+ghost use Rattle.console.specs.Asks.{asked, helpAsked, classesAsked, heard, complaint};
 use std::fmt;
 
 #[derive(Clone, Copy, Debug)]
@@ -62,11 +63,13 @@ fn classes(rest: &[String]) -> Result<Command<'_>, UsageFault<'_>>
 }
 
 pub impl fmt::Display for UsageFault<'_> as UsageFaultDisplay {
+    ghost shown = { λ f. Some (complaint f) };
+
     fn fmt<W: fmt::Write>(&self, f: &mut fmt::Formatter<W>) -> fmt::Result {
         match self {
             UsageFault::NoCommand => f.write_str("no command was given"),
             UsageFault::UnknownCommand(word) => write!(f, "unknown command '{word}'"),
-            UsageFault::NoArchive => f.write_str("classes needs an ARCHIVE, the folder to read"),
+            UsageFault::NoArchive => f.write_str("classes needs an ARCHIVE"),
             UsageFault::TooMany(word) => write!(f, "too many words: '{word}' is not expected"),
         }
     }

@@ -1,4 +1,9 @@
 // Why something was passed over, and what to do about it.
+ghost use mathlib.Core.Path.{_≡_};
+ghost use Rattle.std.specs.Of.String.{string-bytes};
+ghost use Rattle.std.specs.Vec.{made};
+ghost use Rattle.paths.specs.Faults.{toldOfPath};
+ghost use Rattle.console.specs.Reports.{sentence as sentenceOf, refusal as refusalOf, advice as adviceOn};
 use crate::listing::Reason;
 use paths::PathFault;
 use paths::PathFaultTold;
@@ -7,7 +12,9 @@ use std::alloc::Global;
 use text::Fault;
 
 // One sentence for a reason; that of a fault has its number and its layer.
-pub fn sentence(heap: Global, reason: Reason) -> Result<String, AllocError> {
+pub fn sentence(heap: Global, reason: Reason) -> Result<String, AllocError>
+    ensures { λ r. ⌜ made r (λ s. string-bytes s ≡ sentenceOf reason) ⌝ }
+{
     match reason {
         Reason::Reserved => String::from_str(
             heap,
@@ -34,14 +41,18 @@ pub fn sentence(heap: Global, reason: Reason) -> Result<String, AllocError> {
     }
 }
 
-fn refusal(heap: Global, fault: PathFault, advice: &str) -> Result<String, AllocError> {
+fn refusal(heap: Global, fault: PathFault, advice: &str) -> Result<String, AllocError>
+    ensures { λ r. ⌜ made r (λ s. string-bytes s ≡ refusalOf (toldOfPath fault) (now (advice .entry))) ⌝ }
+{
     let told = fault.report();
     let number = told.number;
     let layer = told.layer.name();
     format!(heap, "fault {number} of the {layer} layer, {advice}")
 }
 
-fn advice(fault: PathFault) -> &'static str {
+fn advice(fault: PathFault) -> &'static str
+    ensures { λ r. ⌜ now r ≡ adviceOn fault ⌝ }
+{
     match fault {
         PathFault::Invalid =>
             "the name is not valid; rename it to text that is not made of periods only",

@@ -2,10 +2,9 @@
 ghost use mathlib.Core.Path.{_≡_};
 ghost use Rattle.std.specs.Of.String.{string-bytes};
 ghost use Rattle.std.specs.Vec.{made};
-ghost use Rattle.console.specs.Sights.{kindOf, under};
+ghost use Rattle.console.specs.Sights.{kindOf, kindName, under};
 use std::alloc::AllocError;
 use std::alloc::Global;
-use std::fmt;
 
 // Which metadata files a folder holds.
 #[derive(Clone, Copy, Debug)]
@@ -62,15 +61,15 @@ impl Marks {
     }
 }
 
-pub impl fmt::Display for Kind as KindDisplay {
-    fn fmt<W: fmt::Write>(&self, f: &mut fmt::Formatter<W>) -> fmt::Result {
-        f.pad(
-            match self {
-                Kind::Version3 => "v3 node",
-                Kind::Array2 => "v2 array",
-                Kind::Group2 => "v2 group",
-            },
-        )
+impl Kind {
+    pub fn name(self) -> &'static str
+        ensures { λ r. ⌜ now r ≡ kindName self ⌝ }
+    {
+        match self {
+            Kind::Version3 => "v3 node",
+            Kind::Array2 => "v2 array",
+            Kind::Group2 => "v2 group",
+        }
     }
 }
 

@@ -5,3 +5,5 @@ pub mod found;
 pub mod listing;
 pub mod report;
 pub mod shown;
+#[cfg(test)]
+mod tests;

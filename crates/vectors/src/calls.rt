@@ -30,7 +30,7 @@ pub impl From<StoreFault> for Refusal as RefusalOfStore {
     }
 }
 
-pub fn answer(heap: Global, words: &[Vec<u8>]) -> Result<Vec<u8>, AllocError> {
+pub(crate) fn answer(heap: Global, words: &[Vec<u8>]) -> Result<Vec<u8>, AllocError> {
     match words {
         [call, a] => one(heap, call.as_slice(), a.as_slice()),
         [call, a, b] => two(heap, call.as_slice(), a.as_slice(), b.as_slice()),

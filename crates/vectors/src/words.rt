@@ -2,7 +2,7 @@
 use std::alloc::AllocError;
 use std::alloc::Global;
 
-pub fn decoded(heap: Global, word: &str) -> Result<Vec<u8>, AllocError> {
+pub(crate) fn decoded(heap: Global, word: &str) -> Result<Vec<u8>, AllocError> {
     let bytes = word.as_bytes();
     let mut out = Vec::new(heap);
     if bytes.is_empty() || bytes[0] != b'#' {

@@ -93,7 +93,7 @@ impl NodePath {
 }
 
 // The path of three parts of its text one after the other.
-pub(super) fn build(
+pub(crate) fn build(
     front: &[u8],
     middle: &[u8],
     back: &[u8],
