@@ -79,7 +79,7 @@ pub const USAGE: &str = "walqyndem: the class list of a Zarr archive
 
 usage:
   walqyndem help             prints this text
-  walqyndem classes ARCHIVE  numbers the nodes of the archive in the folder ARCHIVE, from 0 in path order
+  walqyndem classes ARCHIVE  numbers the nodes below the root of the archive in the folder ARCHIVE, from 0 in path order
 
 Path order goes name by name, each by its bytes; a path that ends first is smaller.
 ";

@@ -9,6 +9,7 @@ ghost use Rattle.text.specs.Bytes.{same, byteOrder};
 ghost use Rattle.paths.specs.Names.{reserved};
 ghost use Rattle.paths.specs.Paths.{pathOrder, samePath};
 ghost use Rattle.paths.specs.Values.{namesOf};
+ghost use Rattle.console.specs.declared.listing.Reason.the-variants.{Refused};
 ghost use Rattle.console.specs.Classes.{entry, told, look, answer, judged, seen, hasReserved, allowed, grantedOf, passedOf, lastPath, isLast, kept, repeats, repeated, Listed};
 use crate::found::Found;
 use crate::found::Kind;
@@ -38,6 +39,14 @@ pub enum Reason {
     Unnamed,
     // an earlier one has the same path
     Repeated,
+}
+
+pub impl From<PathFault> for Reason as ReasonOfPath {
+    ghost converts = { λ x y. y ≡ Refused x };
+
+    fn from(fault: PathFault) -> Reason {
+        Reason::Refused(fault)
+    }
 }
 
 #[derive(Drop)]
@@ -124,10 +133,8 @@ pub fn judge(path: &[u8], sight: Sight) -> Result<Node, Reason>
     if has_reserved(path) {
         return Err(Reason::Reserved);
     }
-    match NodePath::new(path) {
-        Ok(path) => judge_sight(path, sight),
-        Err(fault) => Err(Reason::Refused(fault)),
-    }
+    let path = NodePath::new(path)?;
+    judge_sight(path, sight)
 }
 
 // Whether a node could have the path, so that it is worth looking there.

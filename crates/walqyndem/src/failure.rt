@@ -8,6 +8,7 @@ use std::io;
 pub enum Failure {
     Usage(String),
     NoFolder(String),
+    NoNode(String),
     Unreadable { path: String, why: io::Error },
     Output(io::Error),
     Memory,
@@ -21,6 +22,10 @@ pub impl fmt::Display for Failure as FailureDisplay {
                 "{sentence}; 'walqyndem help' says how it is used"
             ),
             Failure::NoFolder(path) => write!(f, "there is no folder '{path}'"),
+            Failure::NoNode(path) => write!(
+                f,
+                "the folder '{path}' is no Zarr archive: it holds no zarr.json, .zarray or .zgroup"
+            ),
             Failure::Unreadable { path, why } => write!(f, "cannot read '{path}': {why}"),
             Failure::Output(why) => write!(f, "cannot write the answer: {why}"),
             Failure::Memory => f.write_str("there is not enough memory"),

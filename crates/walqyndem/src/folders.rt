@@ -4,6 +4,7 @@ use crate::failure::FailureFromAlloc;
 use crate::failure::FailureFromRefused;
 use console::found;
 use console::found::Found;
+use console::found::Kind;
 use console::found::Marks;
 use console::found::Sight;
 use console::listing;
@@ -12,8 +13,8 @@ use std::fs;
 use std::io;
 use std::io::ErrorKind;
 
-// Each folder that is reached from the archive's own, which has the path `/`.
-pub fn find<'a>(rt: &'a LibcRuntime, archive: &'a str) -> Result<Vec<Found>, Failure> {
+// Each folder that is reached below the archive's own, which is that of the node `/`.
+pub(crate) fn find<'a>(rt: &'a LibcRuntime, archive: &'a str) -> Result<Vec<Found>, Failure> {
     let heap = rt.alloc();
     have_folder(rt, archive)?;
     let mut walk = Walk {
@@ -22,7 +23,7 @@ pub fn find<'a>(rt: &'a LibcRuntime, archive: &'a str) -> Result<Vec<Found>, Fai
         found: Vec::new(heap),
         pending: Vec::new(heap),
     };
-    walk.see_folder(String::from_str(heap, "/")?)?;
+    walk.see_root()?;
     for _ in 0..u64::MAX {
         let Some(folder) = walk.pending.pop() else {
             break;
@@ -60,6 +61,25 @@ struct Walk<'a> {
 }
 
 impl Walk<'_> {
+    // Begins with the archive's own folder, which has to be a node's.
+    fn see_root(&mut self) -> Result<(), Failure> {
+        let heap = self.rt.alloc();
+        match self.marks("/")?.kind() {
+            Some(kind) => self.enter(String::from_str(heap, "/")?, kind),
+            None => Err(Failure::NoNode(String::from_str(heap, self.archive)?)),
+        }
+    }
+
+    // Has the folder of a node read later, but for an array's: nothing below one is a node.
+    fn enter(&mut self, path: String, kind: Kind) -> Result<(), Failure> {
+        match kind {
+            Kind::Array2 => {}
+            Kind::Version3 => self.pending.push(path)?,
+            Kind::Group2 => self.pending.push(path)?,
+        }
+        Ok(())
+    }
+
     // Goes through what the folder of a node holds.
     fn see_entries(&mut self, folder: &str) -> Result<(), Failure> {
         let place = self.place(folder)?;
@@ -108,8 +128,8 @@ impl Walk<'_> {
             return self.note(path, Sight::Folder(Marks::NONE));
         }
         let marks = self.marks(path.as_str())?;
-        if marks.kind().is_some() {
-            self.pending.push(path.clone()?)?;
+        if let Some(kind) = marks.kind() {
+            self.enter(path.clone()?, kind)?;
         }
         self.note(path, Sight::Folder(marks))
     }
