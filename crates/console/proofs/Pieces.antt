@@ -6,8 +6,8 @@ use native.Mathlib.Omega.{arith}
 use native.Mathlib.Numerals.{add-one}
 use lib.Chars.{codes}
 use lib.ListN.{length, replicate}
-use Rattle.console.specs.declared.listing.Passed.{Passed}
-use Rattle.console.specs.Classes.{told}
+use Rattle.classes.specs.declared.listing.Passed.{Passed}
+use Rattle.classes.specs.Classes.{told}
 use Rattle.console.specs.Reports.{spaces, passedLines, passedText}
 
 -- a second piece behind a first

@@ -11,11 +11,11 @@ use Rattle.paths.specs.declared.PathFault.{PathFault}
 use Rattle.paths.specs.declared.PathFault.the-variants.{Invalid, OverLimits}
 use Rattle.paths.specs.Faults.{toldOfPath}
 use Rattle.paths.specs.Paths.{rendered}
-use Rattle.console.specs.declared.listing.Reason.{Reason}
-use Rattle.console.specs.declared.listing.Reason.the-variants.{Reserved, Refused, Unmarked, Link, Unnamed, Repeated}
-use Rattle.console.specs.Classes.{Entry, Told}
+use Rattle.classes.specs.declared.listing.Reason.{Reason}
+use Rattle.classes.specs.declared.listing.Reason.the-variants.{Reserved, Refused, Unmarked, Link, Unnamed, Repeated}
+use Rattle.classes.specs.Classes.{Entry, Told}
 use Rattle.console.specs.Shown.{shown}
-use Rattle.console.specs.Sights.{kindName}
+use Rattle.classes.specs.Sights.{kindName}
 
 -- ---- why something was passed over
 

@@ -4,7 +4,7 @@ ghost use Rattle.std.specs.Of.String.{string-bytes};
 ghost use Rattle.std.specs.Vec.{made};
 ghost use Rattle.paths.specs.Faults.{toldOfPath};
 ghost use Rattle.console.specs.Reports.{sentence as sentenceOf, refusal as refusalOf, advice as adviceOn};
-use crate::listing::Reason;
+use classes::listing::Reason;
 use paths::PathFault;
 use paths::PathFaultTold;
 use std::alloc::AllocError;

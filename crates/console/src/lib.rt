@@ -1,8 +1,6 @@
 // What the commands of walqyndem do, on values alone: no file and no terminal is reached from here.
 pub mod command;
 pub mod explain;
-pub mod found;
-pub mod listing;
 pub mod report;
 pub mod shown;
 #[cfg(test)]

@@ -6,13 +6,13 @@ ghost use lib.ListN.{length};
 ghost use Rattle.std.specs.Of.Vec.{vec-items};
 ghost use Rattle.std.specs.Vec.{made};
 ghost use Rattle.std.specs.Written.{decimal};
-ghost use Rattle.console.specs.Classes.{entry, told};
+ghost use Rattle.classes.specs.Classes.{entry, told};
 ghost use Rattle.console.specs.Reports.{spaces, atRight, atLeft, nodeLine, nodesText, nodeLines, passedLine, passedLines, passedText, totals, reportText};
 use crate::explain;
-use crate::listing::ClassList;
-use crate::listing::Node;
-use crate::listing::Passed;
 use crate::shown::push_shown;
+use classes::listing::ClassList;
+use classes::listing::Node;
+use classes::listing::Passed;
 use std::alloc::AllocError;
 use std::alloc::Global;
 

@@ -1,12 +1,12 @@
 // What the commands say of a few small cases.
 use crate::command;
 use crate::command::UsageFaultDisplay;
-use crate::found::Found;
-use crate::found::Marks;
-use crate::found::Sight;
-use crate::listing::class_list;
 use crate::report::report;
 use crate::shown::push_shown;
+use classes::found::Found;
+use classes::found::Marks;
+use classes::found::Sight;
+use classes::listing::class_list;
 use std::alloc::AllocError;
 use std::alloc::Global;
 use std::test::*;

@@ -2,10 +2,10 @@
 mod failure;
 mod folders;
 
+use classes::listing;
 use console::command;
 use console::command::Command;
 use console::command::UsageFaultDisplay;
-use console::listing;
 use console::report;
 use console::shown;
 use failure::Failure;

@@ -7,7 +7,7 @@ use Rattle.paths.specs.Paths.{rendered}
 use Rattle.paths.specs.Values.{namesOf}
 use Rattle.console.specs.Reports.{atRight, atLeft}
 use Rattle.console.specs.Shown.{shown}
-use Rattle.console.specs.Sights.{kindName}
+use Rattle.classes.specs.Sights.{kindName}
 use Rattle.console.proofs.Pieces.{joined, called}
 use Rattle.console.proofs.report.push_node.Needs as need
 

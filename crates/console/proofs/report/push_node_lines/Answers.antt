@@ -1,8 +1,8 @@
 use mathlib.Core.Path.{refl, ap}
 use native.Mathlib.Omega.{arith}
-use Rattle.console.specs.Classes.{entry}
+use Rattle.classes.specs.Classes.{entry}
 use Rattle.console.specs.Reports.{nodeLines}
-use Rattle.console.proofs.Turns.{ahead, grown, ended}
+use Rattle.classes.proofs.Turns.{ahead, grown, ended}
 use Rattle.console.proofs.report.push_node_lines.Needs as need
 
 pub loop-number-again : need.loop-number-again

@@ -2,7 +2,7 @@ use mathlib.Core.Path.{_≡_}
 use mathlib.Core.List.{_++_, map}
 use lib.ListN.{drop}
 use Rattle.std.specs.Of.Vec.{vec-items}
-use Rattle.console.specs.Classes.{entry}
+use Rattle.classes.specs.Classes.{entry}
 use Rattle.console.specs.Reports.{nodeLines}
 use Rattle.console.proofs.report.push_node_lines.Given as given
 

@@ -6,7 +6,7 @@ use lib.ListN.{length}
 use Rattle.std.proofs.shelf.Lists.{length-map}
 use Rattle.std.specs.Of.Vec.{vec-items}
 use Rattle.std.specs.Written.{decimal}
-use Rattle.console.specs.Classes.{entry}
+use Rattle.classes.specs.Classes.{entry}
 use Rattle.console.specs.Reports.{atRight, nodeLines, width}
 use Rattle.console.proofs.Pieces.{joined, called}
 use Rattle.console.proofs.report.push_nodes.Needs as need

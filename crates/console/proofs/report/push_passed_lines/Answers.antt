@@ -1,8 +1,8 @@
 use mathlib.Core.Path.{refl, ap}
 use native.Mathlib.Omega.{arith}
-use Rattle.console.specs.Classes.{told}
+use Rattle.classes.specs.Classes.{told}
 use Rattle.console.specs.Reports.{passedLines}
-use Rattle.console.proofs.Turns.{ahead, grown, ended}
+use Rattle.classes.proofs.Turns.{ahead, grown, ended}
 use Rattle.console.proofs.report.push_passed_lines.Needs as need
 
 pub loop-one-again : need.loop-one-again

@@ -2,7 +2,7 @@ use mathlib.Core.Path.{_≡_}
 use mathlib.Core.List.{_++_, map}
 use lib.ListN.{drop}
 use Rattle.std.specs.Of.Vec.{vec-items}
-use Rattle.console.specs.Classes.{told}
+use Rattle.classes.specs.Classes.{told}
 use Rattle.console.specs.Reports.{passedLines}
 use Rattle.console.proofs.report.push_passed_lines.Given as given
 

@@ -4,7 +4,7 @@ use lib.Chars.{codes}
 use lib.ListN.{length}
 use Rattle.std.proofs.shelf.Lists.{length-map}
 use Rattle.std.specs.Of.Vec.{vec-items}
-use Rattle.console.specs.Classes.{entry, told}
+use Rattle.classes.specs.Classes.{entry, told}
 use Rattle.console.specs.Reports.{nodesText, passedText, totals, reportText}
 use Rattle.console.specs.Shown.{shown}
 use Rattle.console.proofs.Pieces.{joined, called}

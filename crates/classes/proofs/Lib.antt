@@ -1,0 +1,4 @@
+pub mod Entries
+pub mod Turns
+mod Orders
+mod Lists
