@@ -5,6 +5,7 @@ ghost use lib.ListN.{take};
 ghost use Rattle.keys.specs.Keys.{isKey, isPrefix};
 
 mod make;
+mod prefix;
 
 pub use make::is_key;
 pub use make::is_prefix;

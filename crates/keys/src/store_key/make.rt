@@ -1,10 +1,9 @@
-// Keys and prefixes from texts.
+// Keys from texts, and the tests of keys and prefixes.
 ghost use mathlib.Core.Path.{_≡_};
 ghost use mathlib.Core.Bool.{true};
-ghost use Rattle.keys.specs.Keys.{keyForm, prefixForm, endsFresh, isKey, isPrefix, keyOrFault, prefixOrFault};
-ghost use Rattle.keys.specs.Values.{keyText, prefixText, keyIn, prefixIn};
+ghost use Rattle.keys.specs.Keys.{keyForm, prefixForm, endsFresh, isKey, isPrefix, keyOrFault};
+ghost use Rattle.keys.specs.Values.{keyText, keyIn};
 use super::StoreKey;
-use super::StorePrefix;
 use crate::fault::StoreFault;
 use paths::Inline;
 use text::is_text;
@@ -40,26 +39,6 @@ impl StoreKey {
 
     pub fn as_bytes(&self) -> &[u8]
         ensures { λ r. ⌜ now r ≡ keyText (now (self .entry)) ⌝ }
-    {
-        self.text.as_bytes()
-    }
-}
-
-impl StorePrefix {
-    pub fn new(text: &[u8]) -> Result<StorePrefix, StoreFault>
-        ensures { λ r. ⌜ prefixIn r ≡ prefixOrFault (now (text .entry)) ⌝ }
-    {
-        if !is_prefix(text) {
-            return Err(StoreFault::Malformed);
-        }
-        match Inline::of(text, b"", b"") {
-            Some(text) => Ok(StorePrefix { text }),
-            None => Err(StoreFault::Malformed),
-        }
-    }
-
-    pub fn as_bytes(&self) -> &[u8]
-        ensures { λ r. ⌜ now r ≡ prefixText (now (self .entry)) ⌝ }
     {
         self.text.as_bytes()
     }

@@ -71,11 +71,7 @@ impl NodePath {
     fn stem(&self) -> &[u8]
         ensures { λ r. ⌜ now r ≡ slashed (namesOf (now (self .entry))) ⌝ }
     {
-        if self.is_root() {
-            &[]
-        } else {
-            self.text.as_bytes()
-        }
+        if self.is_root() { &[] } else { self.as_bytes() }
     }
 
     pub fn is_root(&self) -> bool

@@ -39,7 +39,7 @@ pub impl Ord for NodePath as NodePathOrd {
     ghost orders = { λ a b r. r ≡ pathOrder (namesOf a) (namesOf b) };
 
     fn cmp(&self, other: &NodePath) -> Ordering {
-        self.compare(other)
+        NodePath::compare(self, other)
     }
 }
 
