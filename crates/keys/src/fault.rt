@@ -1,13 +1,17 @@
-// What a store refuses; here, by the rules for keys.
+// What a store refuses.
 ghost use Rattle.keys.specs.Faults.{toldOfStore};
 use text::Fault;
 use text::FaultReport;
 use text::Layer;
 
-// A malformed key or prefix.
+// A malformed key or prefix; an answer longer than the buffer; a value not taken; a key not let go; a row that there is not, or a row's malformed prefix.
 #[derive(Clone, Copy, PartialEq, Eq, Debug)]
 pub enum StoreFault {
     Malformed,
+    Longer,
+    NotTaken,
+    NotLetGo,
+    Row,
 }
 
 pub impl Fault for StoreFault as StoreFaultTold {
@@ -16,6 +20,10 @@ pub impl Fault for StoreFault as StoreFaultTold {
     fn report(&self) -> FaultReport {
         let number = match self {
             StoreFault::Malformed => 13,
+            StoreFault::Longer => 22,
+            StoreFault::NotTaken => 23,
+            StoreFault::NotLetGo => 24,
+            StoreFault::Row => 52,
         };
         FaultReport {
             number,
