@@ -1,4 +1,6 @@
 // The compact text of a document, written into a lent output.
+#![tactic(auto)]
+
 mod squeeze;
 mod write;
 

@@ -1,4 +1,6 @@
 // What the commands of walqyndem do, on values alone: no file and no terminal is reached from here.
+#![tactic(auto)]
+
 pub mod command;
 pub mod explain;
 pub mod report;

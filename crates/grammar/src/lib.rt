@@ -1,4 +1,6 @@
 // The grammar of JSON texts: definitions, and what they amount to.
+#![tactic(auto)]
+
 mod kinds;
 mod laws;
 

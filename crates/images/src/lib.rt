@@ -1,4 +1,6 @@
 // A store over bytes held for reading.
+#![tactic(auto)]
+
 mod image;
 mod laws;
 mod numbers;

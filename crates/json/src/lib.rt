@@ -1,4 +1,6 @@
 // Reading JSON from the caller's bytes: whole documents, and, for the crates above, their parts from a given place on.
+#![tactic(auto)]
+
 mod fault;
 mod kinds;
 mod read;

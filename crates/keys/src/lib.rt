@@ -1,4 +1,6 @@
 // Keys of a store, prefixes of keys, and the keys of a node.
+#![tactic(auto)]
+
 mod fault;
 mod file;
 mod key;

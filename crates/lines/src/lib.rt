@@ -1,4 +1,6 @@
 // The lines of a script, read as calls.
+#![tactic(auto)]
+
 pub mod call;
 mod calls;
 mod split;

@@ -1,4 +1,6 @@
 // Members of the objects of a document that stays the caller's.
+#![tactic(auto)]
+
 mod cursor;
 mod laws;
 mod reader;

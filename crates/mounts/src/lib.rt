@@ -1,4 +1,6 @@
 // A store seen from a path: what lies under the path's prefix, without the prefix.
+#![tactic(auto)]
+
 mod mount;
 mod parts;
 mod room;

@@ -1,4 +1,6 @@
 // Names of JSON members, compared with their escapes undone.
+#![tactic(auto)]
+
 mod compare;
 mod undone;
 

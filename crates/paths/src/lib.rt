@@ -1,4 +1,6 @@
 // Names and paths of a Zarr hierarchy.
+#![tactic(auto)]
+
 mod fault;
 mod inline;
 mod laws;

@@ -1,4 +1,6 @@
 // Layers on layers: work done on any store through a pile of layers, and what is known of the store when the layers are gone.
+#![tactic(auto)]
+
 mod fault;
 mod pile;
 mod put;

@@ -1,4 +1,6 @@
 // Scripts with their answers: each is performed again, and what it answers is held to what is written beside it.
+#![tactic(auto)]
+
 use std::alloc::{AllocError, AllocFailed};
 use std::{env, fs, io};
 

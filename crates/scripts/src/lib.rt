@@ -1,4 +1,6 @@
 // Scripts of calls performed on an archive in memory, each call answered in a line.
+#![tactic(auto)]
+
 mod answers;
 mod pile;
 mod run;

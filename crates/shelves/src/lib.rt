@@ -1,4 +1,6 @@
 // A store in lent slots and lent bytes.
+#![tactic(auto)]
+
 mod laws;
 mod lay;
 mod raw;

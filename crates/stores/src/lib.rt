@@ -1,4 +1,6 @@
 // What every store offers: reading, listing and writing.
+#![tactic(auto)]
+
 mod back;
 mod calls;
 mod count;

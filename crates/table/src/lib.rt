@@ -1,4 +1,6 @@
 // The ordered table, written once for any record with a total order.
+#![tactic(auto)]
+
 mod order;
 mod rows;
 mod search;

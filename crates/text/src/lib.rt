@@ -1,4 +1,6 @@
 // Bytes in order, text, and the one shape of a refusal.
+#![tactic(auto)]
+
 mod bytes;
 mod fault;
 mod laws;

@@ -1,4 +1,6 @@
 // Runs a file of vectors: each line is a call, its words, `=` and the answer that it must give.
+#![tactic(auto)]
+
 mod calls;
 mod words;
 

@@ -1,4 +1,6 @@
 // The program that a shift runs: it reads a command line and an archive's folders, and prints.
+#![tactic(auto)]
+
 mod failure;
 mod folders;
 

@@ -8,11 +8,11 @@ returns-then-s-at c =
 
 pub returns-then-not-within : goal.returns-then-not-within
 returns-then-not-within c =
-    sym (c.loop-k.invariant ∙ fit_turn c.args.row.now c.args.s.now c.args.at c.loop-k.k c.requires.full c.range-at.result c.if-s-at.false c.loop-k-test.true c.range-at.ensures false c.if-not-within.ensures)
+    sym (c.loop-k.invariant ∙ fit_turn c.args.row.now c.args.s.now c.args.at c.loop-k.k c.requires.full c.range_at.result c.if-s-at.false c.loop-k-test.true c.range_at.ensures false c.if-not-within.ensures)
 
 pub loop-k-preserved : goal.loop-k-preserved
 loop-k-preserved c =
-    c.loop-k.invariant ∙ fit_turn c.args.row.now c.args.s.now c.args.at c.loop-k.k c.requires.full c.range-at.result c.if-s-at.false c.loop-k-test.true c.range-at.ensures true c.if-not-within.ensures
+    c.loop-k.invariant ∙ fit_turn c.args.row.now c.args.s.now c.args.at c.loop-k.k c.requires.full c.range_at.result c.if-s-at.false c.loop-k-test.true c.range_at.ensures true c.if-not-within.ensures
 
 pub returns : goal.returns
 returns c =

@@ -14,20 +14,20 @@ ends s i n h e =
 
 pub returns-then-n-eq0 : goal.returns-then-n-eq0
 returns-then-n-eq0 c =
-    sym (c.loop-i.invariant.1 ∙ text_none (drop c.loop-i.i c.args.s.now) (simp length-drop (omega arith)) (sym c.sequence-len-n.ensures ∙ c.if-n-eq0.true))
+    sym (c.loop-i.invariant.1 ∙ text_none (drop c.loop-i.i c.args.s.now) (simp length-drop (omega arith)) (sym c.sequence_len-n.ensures ∙ c.if-n-eq0.true))
 
-pub overflow-add-i : goal.overflow-add-i
-overflow-add-i c =
-    let w = ends c.args.s.now c.loop-i.i c.sequence-len-n.result c.loop-i-test.true c.sequence-len-n.ensures in
+pub overflow_add-i : goal.overflow_add-i
+overflow_add-i c =
+    let w = ends c.args.s.now c.loop-i.i c.sequence_len-n.result c.loop-i-test.true c.sequence_len-n.ensures in
     search rules
 
 pub loop-i-preserved : goal.loop-i-preserved
 loop-i-preserved c =
-    let w = ends c.args.s.now c.loop-i.i c.sequence-len-n.result c.loop-i-test.true c.sequence-len-n.ensures in (
+    let w = ends c.args.s.now c.loop-i.i c.sequence_len-n.result c.loop-i-test.true c.sequence_len-n.ensures in (
       omega arith,
       c.loop-i.invariant.1
-          ∙ text_more (drop c.loop-i.i c.args.s.now) c.sequence-len-n.result c.sequence-len-n.ensures c.if-n-eq0.false
-          ∙ ap is_text (drop-drop c.sequence-len-n.result c.loop-i.i c.args.s.now),
+          ∙ text_more (drop c.loop-i.i c.args.s.now) c.sequence_len-n.result c.sequence_len-n.ensures c.if-n-eq0.false
+          ∙ ap is_text (drop-drop c.sequence_len-n.result c.loop-i.i c.args.s.now),
     )
 
 pub returns : goal.returns

@@ -10,16 +10,16 @@ returns-then-at-s c = sym (ap sequence_length (drop_all c.args.at c.args.s.now c
 
 pub loop-k-preserved-then-row-n : goal.loop-k-preserved-then-row-n
 loop-k-preserved-then-row-n c =
-    c.loop-k.invariant ∙ read_unlike c.args.s.now c.args.at c.loop-k.k c.row-at-row.result c.loop-k-test.true c.row-at-row.ensures.ranges c.row-at-row.ensures.full c.width-n.result c.if-at-s.false c.width-n.ensures c.if-row-n.true
+    c.loop-k.invariant ∙ read_unlike c.args.s.now c.args.at c.loop-k.k c.row_at-row.result c.loop-k-test.true c.row_at-row.ensures.ranges c.row_at-row.ensures.full c.width-n.result c.if-at-s.false c.width-n.ensures c.if-row-n.true
 
 pub returns-then-fits : goal.returns-then-fits
 unfolding sequence_length
 returns-then-fits c =
-    sym (c.loop-k.invariant ∙ read_turn c.args.s.now c.args.at c.loop-k.k c.row-at-row.result c.loop-k-test.true c.row-at-row.ensures.ranges c.row-at-row.ensures.full true c.if-fits.ensures ∙ c.if-row-n.false)
+    sym (c.loop-k.invariant ∙ read_turn c.args.s.now c.args.at c.loop-k.k c.row_at-row.result c.loop-k-test.true c.row_at-row.ensures.ranges c.row_at-row.ensures.full true c.if-fits.ensures ∙ c.if-row-n.false)
 
 pub loop-k-preserved : goal.loop-k-preserved
 loop-k-preserved c =
-    c.loop-k.invariant ∙ read_turn c.args.s.now c.args.at c.loop-k.k c.row-at-row.result c.loop-k-test.true c.row-at-row.ensures.ranges c.row-at-row.ensures.full false c.if-fits.ensures
+    c.loop-k.invariant ∙ read_turn c.args.s.now c.args.at c.loop-k.k c.row_at-row.result c.loop-k-test.true c.row_at-row.ensures.ranges c.row_at-row.ensures.full false c.if-fits.ensures
 
 pub returns : goal.returns
 unfolding sequence_length
