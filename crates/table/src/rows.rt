@@ -60,8 +60,8 @@ impl<T: Ordered + Copy> Table<'_, T> {
     // Where a record stands, or where it would.
     pub fn find(&self, x: &T) -> Result<usize, usize>
         requires within { self.now.len ≤ length self.now.slots.now }
-        requires ascends { Ascending before self.now.slots.now self.now.len }
-        ensures { Located before self.now.slots.now self.now.len x.now result }
+        requires ascends { Ascending T.before self.now.slots.now self.now.len }
+        ensures { Located T.before self.now.slots.now self.now.len x.now result }
     {
         find(self.slots, self.len, x)
     }

@@ -8,8 +8,8 @@ use std::cmp::Ordering;
 // Where a record stands among the first `len` slots, or where it would.
 pub(crate) fn find<T: Ordered>(slots: &[T], len: usize, x: &T) -> Result<usize, usize>
     requires within { len ≤ length slots.now }
-    requires ascends { Ascending before slots.now len }
-    ensures { Located before slots.now len x.now result }
+    requires ascends { Ascending T.before slots.now len }
+    ensures { Located T.before slots.now len x.now result }
 {
     let mut low = 0;
     let mut high = len;
