@@ -1,6 +1,6 @@
 -- Names put behind a base, as the code builds their text.
 -- Assumes nothing.
-use Rattle.std.proofs.Common.{◌≡◌, ℕ, ◌+◌, ◌<◌, ◌≤◌, Bool, true, false, cond, not, ◌&&◌, eqb, leb, ◌⊎◌, List, [], ◌∷◌, ◌++◌, length, get_or, drop, is_ok, Some, None, Ok, Err, Option, Result, sym, refl, ap, ◌∙◌, subst, inl, inr, arith, length-append, eq-eqb, ne_eqb, le-leb, MatchResult}
+use Rattle.std.proofs.Common.{◌≡◌, ℕ, ◌+◌, ◌<◌, ◌≤◌, Bool, true, false, cond, ◌&&◌, leb, [], ◌∷◌, ◌++◌, length, get_or, drop, is_ok, Some, None, Ok, Err, Result, sym, refl, ap, ◌∙◌, arith, length-append, eq-eqb, ne_eqb, le-leb, MatchResult}
 use borrow.Author.Tests.{lt-leb}
 use Rattle.std.proofs.lemmas.Bool.{and_parts, and_from, leb-true}
 use Rattle.text.specs.Bytes.{Bytes}
@@ -10,7 +10,7 @@ use Rattle.paths.specs.declared.node_path.NodePath.{NodePath}
 use Rattle.paths.specs.Paths.{Path, is_root, are_names, slashed, rendered, in_limits, split, checked, extended, path_of, is_path_text, names_in, without_slash}
 use Rattle.paths.specs.Values.{path_text, names_of, path_in}
 use Rattle.paths.proofs.Splits.{names_both, split_some, slashed-append, rendered-split}
-use Rattle.paths.proofs.Readings.{never, spelled, checked_is, checked_over, checked_invalid, valid_limits}
+use Rattle.paths.proofs.Readings.{never, spelled, checked_is, checked_over, valid_limits}
 
 pub rendered-slashed : (p : Path) → is_root p ≡ false → rendered p ≡ slashed p
 rendered-slashed [] h = never h

@@ -1,12 +1,11 @@
 -- Joining, and the parent and the last name of what was joined.
 -- Assumes nothing.
-use Rattle.std.proofs.Common.{◌≡◌, ℕ, Bool, true, false, cond, not, ◌&&◌, eqb, List, [], ◌∷◌, ◌++◌, Some, None, Ok, Err, Option, Result, sym, refl, ap, ◌∙◌, subst, append_assoc, append-nil, arith}
+use Rattle.std.proofs.Common.{◌≡◌, ℕ, Bool, true, false, cond, eqb, [], ◌∷◌, ◌++◌, Some, Ok, Err, sym, refl, ap, ◌∙◌, append_assoc, append-nil}
 use Rattle.std.proofs.lemmas.Bool.{and_parts}
 use Rattle.text.specs.Bytes.{Bytes}
-use Rattle.paths.specs.declared.fault.PathFault.{PathFault}
 use Rattle.paths.specs.declared.fault.PathFault.TheVariants.{Invalid, OverLimits}
-use Rattle.paths.specs.Names.{no_slash, only_periods, is_name}
-use Rattle.paths.specs.Paths.{Name, Path, are_names, slashed, rendered, in_limits, is_path, split, checked, extended, path_of, joined, relative, behind, AtOrBelow, parent_of, leading, final, name_of}
+use Rattle.paths.specs.Names.{no_slash, only_periods}
+use Rattle.paths.specs.Paths.{Name, Path, are_names, slashed, in_limits, is_path, split, checked, extended, path_of, joined, relative, behind, parent_of, leading, final, name_of}
 use Rattle.paths.specs.Laws.{JoinUndoesRelative, JoinReadsOneText, ParentUndoesJoin}
 use Rattle.paths.proofs.Splits.{name_plain, name_not_periods, names_head, names_back, names_both, plain_head, split_name, split-append, split-relative}
 use Rattle.paths.proofs.Readings.{never, checked_ok, checked_is}

@@ -1,14 +1,13 @@
 -- Two path values with the same names are the same in memory.
 -- Assumes nothing.
-use Rattle.std.proofs.Common.{◌≡◌, ℕ, ◌-◌, ◌≤◌, true, eqb, List, [], ◌∷◌, ◌++◌, length, take, drop, sym, refl, ap, ◌∙◌, arith, length-drop, take-append-drop}
+use Rattle.std.proofs.Common.{◌≡◌, ℕ, ◌≤◌, true, eqb, [], ◌∷◌, ◌++◌, length, take, drop, sym, refl, ap, ◌∙◌, arith, length-drop, take-append-drop}
 use Rattle.std.proofs.lemmas.List.{length-take-le}
 use Rattle.std.proofs.lemmas.Bool.{and_parts, eqb-true}
 use Rattle.text.specs.Bytes.{Bytes}
-use Rattle.paths.specs.declared.node_path.NodePath.{NodePath}
 use Rattle.paths.specs.Held.{all_zero}
 use Rattle.paths.specs.Memory.{SameNamesSameMemory}
 use Rattle.paths.specs.Paths.{rendered}
-use Rattle.paths.specs.Values.{path_text, names_of}
+use Rattle.paths.specs.Values.{path_text}
 use Rattle.paths.proofs.Values.{written}
 
 zeros_alike : (x y : Bytes) → all_zero x ≡ true → all_zero y ≡ true → length x ≡ length y → x ≡ y

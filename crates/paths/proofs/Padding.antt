@@ -1,9 +1,9 @@
 -- Parts laid one after the other into an array of zeros.
 -- Assumes nothing.
-use Rattle.std.proofs.Common.{◌≡◌, ℕ, zero, suc, ◌+◌, ◌-◌, ◌<◌, ◌≤◌, Bool, true, List, [], ◌∷◌, ◌++◌, length, get_or, take, drop, set, replicate, sym, refl, ap, ◌∙◌, append_assoc, arith, length-append, length-drop, take_at, drop_at}
+use Rattle.std.proofs.Common.{◌≡◌, ℕ, zero, suc, ◌+◌, ◌-◌, ◌<◌, ◌≤◌, true, [], ◌∷◌, ◌++◌, length, get_or, take, drop, set, replicate, sym, refl, ap, ◌∙◌, append_assoc, arith, length-append, length-drop, take_at, drop_at}
 use lib.ListN.{length-replicate}
 use lib.Seq.{set_at}
-use Rattle.std.proofs.lemmas.List.{drop-replicate, take_more, drop_more, length-take-le, take_all}
+use Rattle.std.proofs.lemmas.List.{drop-replicate, take_more, drop_more, length-take-le}
 use Rattle.text.specs.Bytes.{Bytes}
 use Rattle.paths.specs.Held.{all_zero}
 

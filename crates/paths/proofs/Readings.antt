@@ -1,16 +1,15 @@
 -- The path of a text: what is granted, what is over its limits, and what is invalid.
 -- Assumes nothing.
-use Rattle.std.proofs.Common.{◌≡◌, ℕ, ◌+◌, ◌≤◌, Bool, true, false, cond, not, ◌&&◌, eqb, leb, ◌⊎◌, ◌↔◌, List, [], ◌∷◌, ◌++◌, length, is_ok, Some, None, Ok, Err, Option, Result, sym, refl, ap, ◌∙◌, subst, inl, inr, append_assoc, append-nil, arith, length-append}
-use Rattle.std.proofs.lemmas.Bool.{and_parts, and_from, not-true, leb-true}
+use Rattle.std.proofs.Common.{◌≡◌, ℕ, Bool, true, false, cond, eqb, [], ◌∷◌, ◌++◌, is_ok, Ok, Err, Result, sym, refl, ap, ◌∙◌, subst, arith}
+use Rattle.std.proofs.lemmas.Bool.{and_parts}
 use Rattle.std.proofs.lemmas.Bool.Decides.{nat_tests}
 use Rattle.text.specs.Bytes.{Bytes}
-use Rattle.text.specs.Utf8.{is_text}
 use Rattle.paths.specs.declared.fault.PathFault.{PathFault}
 use Rattle.paths.specs.declared.fault.PathFault.TheVariants.{Invalid, OverLimits}
-use Rattle.paths.specs.Names.{no_slash, only_periods, is_name}
-use Rattle.paths.specs.Paths.{Name, Path, are_names, slashed, rendered, in_limits, is_path, onto, split, checked, extended, path_of, is_path_text, names_in, joined, relative, behind, AtOrBelow, parent_of, leading, final, name_of}
-use Rattle.paths.specs.Laws.{Spells, ReadsWhatIsSpelled, SplittingUndoesWriting, JoinUndoesRelative, JoinReadsOneText, ParentUndoesJoin}
-use Rattle.paths.proofs.Splits.{name_plain, name_not_periods, names_head, names_tail, names_back, names_front, names_both, split_name, split_some, split-append, split-relative, relative-split, slashed-append, rendered-split}
+use Rattle.paths.specs.Names.{only_periods}
+use Rattle.paths.specs.Paths.{Path, are_names, slashed, rendered, in_limits, is_path, split, checked, extended, path_of, is_path_text, names_in}
+use Rattle.paths.specs.Laws.{Spells, ReadsWhatIsSpelled, SplittingUndoesWriting}
+use Rattle.paths.proofs.Splits.{name_not_periods, names_head, split-relative, relative-split, rendered-split}
 
 pub never : {X : Type 0} → true ≡ false → X
 never e = let z : ◌≡◌ {A = ℕ} 0 1 = cc in absurd (omega arith)

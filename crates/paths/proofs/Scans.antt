@@ -1,12 +1,12 @@
 -- Turns of the loops over a text's bytes and names.
 -- Assumes nothing.
-use Rattle.std.proofs.Common.{◌≡◌, ℕ, zero, suc, ◌+◌, ◌-◌, ◌<◌, ◌≤◌, Bool, true, false, cond, not, ◌&&◌, eqb, leb, ◌⊎◌, List, [], ◌∷◌, ◌++◌, length, get_or, take, drop, sym, refl, ap, ◌∙◌, subst, inl, inr, append-nil, arith, length-drop, take-append-drop, drop-drop, eq-eqb, ne_eqb}
+use Rattle.std.proofs.Common.{◌≡◌, ℕ, zero, suc, ◌+◌, ◌-◌, ◌<◌, ◌≤◌, Bool, true, false, not, ◌&&◌, eqb, leb, ◌⊎◌, List, [], ◌∷◌, ◌++◌, length, get_or, take, drop, sym, refl, ap, ◌∙◌, inl, inr, append-nil, arith, length-drop, take-append-drop, drop-drop, eq-eqb, ne_eqb}
 use Rattle.std.proofs.lemmas.Bool.Decides.{leb_tells}
-use Rattle.std.proofs.lemmas.List.{drop_more, drop_all, take_more, take_rest, get_or-drop, length-take-le, take_all}
+use Rattle.std.proofs.lemmas.List.{drop_more, drop_all, take_more, get_or-drop}
 use Rattle.std.proofs.lemmas.Bool.{and_parts, and_from}
 use Rattle.text.specs.Bytes.{Bytes}
 use Rattle.paths.specs.Names.{no_slash, only_periods, is_name}
-use Rattle.paths.specs.Paths.{Path, are_names, split}
+use Rattle.paths.specs.Paths.{are_names, split}
 use Rattle.paths.proofs.Splits.{split_name, split_more}
 
 -- ---- periods

@@ -1,12 +1,12 @@
 -- Texts cut at their `/`s, and names put together again.
 -- Assumes nothing.
-use Rattle.std.proofs.Common.{◌≡◌, ℕ, Bool, true, false, cond, not, ◌&&◌, eqb, List, [], ◌∷◌, ◌++◌, sym, refl, ap, ◌∙◌, subst, append_assoc, append-nil, arith}
+use Rattle.std.proofs.Common.{◌≡◌, ℕ, true, false, cond, not, ◌&&◌, eqb, List, [], ◌∷◌, ◌++◌, sym, refl, ap, ◌∙◌, append_assoc, append-nil, arith}
 use Rattle.std.proofs.lemmas.Bool.{and_parts, and_from, not-true}
 use Rattle.std.proofs.lemmas.Bool.Decides.{nat_tests}
 use Rattle.text.specs.Bytes.{Bytes}
 use Rattle.text.specs.Utf8.{is_text}
 use Rattle.paths.specs.Names.{no_slash, reserved, only_periods, is_name}
-use Rattle.paths.specs.Paths.{Name, Path, are_names, slashed, rendered, onto, split, names_in, relative}
+use Rattle.paths.specs.Paths.{Name, Path, are_names, slashed, rendered, onto, split, relative}
 
 -- ---- names
 

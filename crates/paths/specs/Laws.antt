@@ -1,8 +1,7 @@
 -- What the definitions of paths amount to, in plain words, so that a contract can name it.
 -- Assumes nothing.
-use Rattle.std.specs.Prelude.{◌≡◌, ℕ, true, false, ◌⊎◌, ◌↔◌, ◌∷◌, ◌++◌, Some, None, Ok, Err, Option, Result, ◌==◌}
+use Rattle.std.specs.Prelude.{◌≡◌, ℕ, true, false, ◌⊎◌, ◌↔◌, ◌∷◌, ◌++◌, Some, Ok, Err, ◌==◌}
 use Rattle.text.specs.Bytes.{Bytes, same}
-use Rattle.paths.specs.declared.fault.PathFault.{PathFault}
 use Rattle.paths.specs.declared.fault.PathFault.TheVariants.{Invalid, OverLimits}
 use Rattle.paths.specs.Names.{is_name}
 use Rattle.paths.specs.Paths.{Name, Path, are_names, slashed, rendered, in_limits, is_path, split, path_of, joined, parent_of, name_of, AtOrBelow, behind, relative, same_path, path_before, text_before}

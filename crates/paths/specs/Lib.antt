@@ -5,3 +5,4 @@ pub mod Held
 pub mod Values
 pub mod Memory
 pub mod Faults
+pub mod TotalOrders

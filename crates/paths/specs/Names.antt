@@ -1,6 +1,6 @@
 -- Names of nodes, by the rules for node names of Zarr version 3.
 -- Assumes nothing.
-use Rattle.std.specs.Prelude.{ℕ, Bool, true, false, not, ◌&&◌, List, [], ◌∷◌, ◌==◌}
+use Rattle.std.specs.Prelude.{Bool, true, false, not, ◌&&◌, [], ◌∷◌, ◌==◌}
 use Rattle.text.specs.Bytes.{Bytes}
 use Rattle.text.specs.Utf8.{is_text}
 

@@ -1,6 +1,6 @@
 -- What the values of the code mean: the text that a path or a row holds, and the names of a path.
 -- Assumes nothing.
-use Rattle.std.specs.Prelude.{Bool, true, false, List, [], ◌∷◌, take, Some, None, Ok, Err, Option, Result}
+use Rattle.std.specs.Prelude.{take, Some, None, Ok, Err, Option, Result}
 use Rattle.text.specs.Bytes.{Bytes}
 use Rattle.paths.specs.declared.fault.PathFault.{PathFault}
 use Rattle.paths.specs.declared.node_path.NodePath.{NodePath}

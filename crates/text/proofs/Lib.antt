@@ -4,3 +4,4 @@ pub mod Rows
 pub mod Tables
 pub mod Scalars
 pub mod Shared
+pub mod TotalOrders

@@ -1,6 +1,6 @@
 -- Text by the table: two texts in a row, an ASCII byte in front, and an ASCII byte to cut at.
 -- Assumes nothing.
-use Rattle.std.proofs.Common.{◌≡◌, ℕ, ◌+◌, ◌≤◌, Bool, true, false, cond, ◌&&◌, ltb, leb, List, [], ◌∷◌, ◌++◌, sym, refl, ◌∙◌, arith, ltb-true, le-leb, leb-true}
+use Rattle.std.proofs.Common.{◌≡◌, ℕ, ◌≤◌, Bool, true, false, cond, ◌&&◌, ltb, leb, List, [], ◌∷◌, ◌++◌, sym, refl, ◌∙◌, arith, ltb-true, le-leb, leb-true}
 use borrow.Author.Tests.{clash}
 use Rattle.text.specs.Bytes.{Bytes}
 use Rattle.text.specs.Utf8.{Range, range, inside, rows, begins, behind, is_text_in, is_text}

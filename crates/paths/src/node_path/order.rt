@@ -2,10 +2,8 @@
 ghost use Rattle.std.specs.Prelude.{◌≡◌, Some, refl};
 ghost use Rattle.paths.specs.Paths.{same_path, rank, path_order};
 ghost use Rattle.paths.specs.Values.{names_of};
-ghost use Rattle.std.specs.Cmp.Rules.{comparing};
-ghost use Rattle.std.proofs.Common.{rules, arith};
-ghost use Rattle.std.specs.Cmp as Keys;
-ghost use Rattle.std.specs.Cmp.{partial_order_from_agreeing_total};
+ghost use Rattle.paths.specs.TotalOrders.{path_order_total, same_path_equivalence, same_path_ties};
+ghost use Rattle.std.specs.Cmp.{on_equiv, on_total, partial_equiv_from_equiv, partial_order_from_agreeing_total};
 
 use super::NodePath;
 use std::cmp::Ordering;
@@ -23,7 +21,7 @@ impl NodePath {
 impl PartialEq for NodePath {
     ghost eq = { λ a b. same_path (names_of a) (names_of b) };
 
-    ghost laws = { Keys.partial_equiv_from_equiv (first_of (Prim.search (comparing, rules), Prim.grind (arith, Self.row.coded.inj))) };
+    ghost laws = { partial_equiv_from_equiv (on_equiv names_of same_path_equivalence) };
 
     fn eq(&self, other: &NodePath) -> bool {
         self.compare(other).is_eq()
@@ -31,13 +29,13 @@ impl PartialEq for NodePath {
 }
 
 impl Eq for NodePath {
-    ghost laws = { first_of (Prim.search (comparing, rules), Prim.grind (arith, Self.row.coded.inj)) };
+    ghost laws = { on_equiv names_of same_path_equivalence };
 }
 
 impl PartialOrd for NodePath {
     ghost partial_cmp = { λ a b. Some (path_order (names_of a) (names_of b)) };
 
-    ghost laws = { partial_order_from_agreeing_total (λ a b. path_order (names_of a) (names_of b)) (first_of (Prim.search (comparing, rules), Prim.grind (arith, Self.row.coded.inj))) (λ _ _. refl) (first_of (Prim.search (comparing, rules), Prim.grind (arith, Self.row.coded.inj))) };
+    ghost laws = { partial_order_from_agreeing_total (λ a b. path_order (names_of a) (names_of b)) (on_total names_of path_order_total) (λ _ _. refl) (λ a b. same_path_ties (names_of a) (names_of b)) };
 
     fn partial_cmp(&self, other: &NodePath) -> Option<Ordering> {
         Some(self.compare(other))
@@ -47,11 +45,11 @@ impl PartialOrd for NodePath {
 impl Ord for NodePath {
     ghost cmp = { λ a b. path_order (names_of a) (names_of b) };
 
-    ghost total = { first_of (Prim.search (comparing, rules), Prim.grind (arith, Self.row.coded.inj)) };
+    ghost total = { on_total names_of path_order_total };
 
-    ghost matches_partial_cmp = { first_of (Prim.search (comparing, rules), Prim.grind (arith, Self.row.coded.inj)) };
+    ghost matches_partial_cmp = { λ _ _. refl };
 
-    ghost matches_eq = { first_of (Prim.search (comparing, rules), Prim.grind (arith, Self.row.coded.inj)) };
+    ghost matches_eq = { λ a b. same_path_ties (names_of a) (names_of b) };
 
     fn cmp(&self, other: &NodePath) -> Ordering {
         NodePath::compare(self, other)

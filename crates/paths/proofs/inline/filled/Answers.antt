@@ -1,4 +1,4 @@
-use Rattle.std.proofs.Common.{◌≡◌, ℕ, ◌+◌, ◌<◌, ◌++◌, length, take, drop, set, replicate, sym, refl, ap, ◌∙◌, arith}
+use Rattle.std.proofs.Common.{◌≡◌, ℕ, ◌+◌, ◌<◌, ◌++◌, length, take, drop, set, replicate, ap, ◌∙◌, arith}
 use lib.ListN.{length-replicate}
 use Rattle.std.proofs.lemmas.List.{take_all}
 use Rattle.text.specs.Bytes.{Bytes}
@@ -11,8 +11,8 @@ loop-i-preserved g c =
     let z : Bytes = replicate g.row.N 0 in
     let hw : c.loop-i.i < length w = omega (arith, three_long c.args.front.now c.args.middle.now c.args.back.now) in
     let hz : c.loop-i.i < length z = omega (arith, length-replicate {A = ℕ} g.row.N 0) in
-    ap (λ (u : Bytes). set u c.loop-i.i c.byte-at.result) c.loop-i.invariant
-    ∙ ap (λ (b : ℕ). set (take c.loop-i.i w ++ drop c.loop-i.i z) c.loop-i.i b) c.byte-at.ensures ∙ one_laid w z c.loop-i.i hw hz
+    ap (λ (u : Bytes). set u c.loop-i.i c.byte_at.result) c.loop-i.invariant
+    ∙ ap (λ (b : ℕ). set (take c.loop-i.i w ++ drop c.loop-i.i z) c.loop-i.i b) c.byte_at.ensures ∙ one_laid w z c.loop-i.i hw hz
 
 pub returns : goal.returns
 returns g c =

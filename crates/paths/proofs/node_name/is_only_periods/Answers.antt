@@ -1,4 +1,4 @@
-use Rattle.std.proofs.Common.{◌≡◌, sym, ◌∙◌, arith}
+use Rattle.std.proofs.Common.{sym, ◌∙◌, arith}
 use Rattle.paths.proofs.Scans.{period_here, period_missing, periods_all}
 use Rattle.paths.proofs.node_name.is_only_periods.Goals as goal
 

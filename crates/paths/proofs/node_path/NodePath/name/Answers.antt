@@ -1,4 +1,4 @@
-use Rattle.std.proofs.Common.{◌≡◌, ◌+◌, drop, sym, ap, ◌∙◌}
+use Rattle.std.proofs.Common.{◌+◌, sym, ◌∙◌}
 use Rattle.std.proofs.lemmas.List.{take_rest}
 use Rattle.text.specs.Bytes.{Bytes}
 use Rattle.paths.specs.declared.node_path.NodePath.{NodePath}
@@ -10,6 +10,6 @@ use Rattle.paths.proofs.node_path.NodePath.name.Goals as goal
 pub returns : goal.returns
 returns c =
     let v : NodePath = c.args.self.now in
-    let t : Bytes = c.as-bytes-text.result.now in
-    take_rest t (c.last-slash-end.result + 1)
-    ∙ behind_last t (names_of v) c.last-slash-end.result (lawful v) (written v ∙ sym c.as-bytes-text.ensures) c.last-slash-end.ensures.within c.last-slash-end.ensures.stands c.last-slash-end.ensures.plain
+    let t : Bytes = c.as_bytes-text.result.now in
+    take_rest t (c.last_slash-end.result + 1)
+    ∙ behind_last t (names_of v) c.last_slash-end.result (lawful v) (written v ∙ sym c.as_bytes-text.ensures) c.last_slash-end.ensures.within c.last_slash-end.ensures.stands c.last_slash-end.ensures.plain

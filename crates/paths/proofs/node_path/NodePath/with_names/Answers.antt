@@ -1,6 +1,5 @@
-use Rattle.std.proofs.Common.{◌≡◌, ℕ, ◌+◌, ◌<◌, ◌≤◌, true, ◌∷◌, ◌++◌, length, sym, ap, ◌∙◌, subst, arith, length-append, MatchResult}
+use Rattle.std.proofs.Common.{◌≡◌, ◌+◌, ◌<◌, ◌≤◌, ◌∷◌, ◌++◌, length, sym, ap, ◌∙◌, subst, arith, length-append, MatchResult}
 use Rattle.text.specs.Bytes.{Bytes}
-use Rattle.paths.specs.declared.fault.PathFault.{PathFault}
 use Rattle.paths.specs.declared.fault.PathFault.TheVariants.{OverLimits}
 use Rattle.paths.specs.declared.node_path.NodePath.{NodePath}
 use Rattle.paths.specs.Paths.{Path, are_names, slashed, split, is_path_text, names_in}
@@ -9,8 +8,8 @@ use Rattle.paths.proofs.Extends.{counted, names_with, valid_with, extended_by, o
 use Rattle.paths.proofs.Values.{few, lawful}
 use Rattle.paths.proofs.node_path.NodePath.with_names.Goals as goal
 
-pub overflow-sub-self : goal.overflow-sub-self
-overflow-sub-self c = few c.args.self.now
+pub overflow_sub-self : goal.overflow_sub-self
+overflow_sub-self c = few c.args.self.now
 
 pub returns-then-count-self : goal.returns-then-count-self
 returns-then-count-self c =
