@@ -1,6 +1,6 @@
 -- The texts of keys and prefixes as the code puts them together.
 -- Assumes nothing.
-use Rattle.std.proofs.Common.{◌≡◌, ℕ, suc, ◌+◌, ◌-◌, ◌<◌, Bool, true, false, cond, eqb, List, [], ◌∷◌, ◌++◌, length, take, drop, Some, None, Option, sym, refl, ap, ◌∙◌, append_assoc, arith, length-append, MatchOption}
+use Rattle.std.proofs.Common.{◌≡◌, ℕ, suc, ◌+◌, ◌-◌, ◌<◌, Bool, true, false, cond, eqb, [], ◌∷◌, ◌++◌, length, take, drop, Some, None, Option, sym, refl, ap, ◌∙◌, append_assoc, arith, length-append, MatchOption}
 use Rattle.std.proofs.lemmas.List.{take_all}
 use Rattle.text.specs.Bytes.{Bytes}
 use Rattle.keys.specs.Keys.{key_form, is_key, is_prefix}

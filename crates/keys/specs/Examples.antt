@@ -1,12 +1,9 @@
 -- A table of cases, shown of the definitions themselves.
 -- Assumes nothing.
-use Rattle.std.specs.Prelude.{◌≡◌, ℕ, true, List, [], ◌∷◌, Some, None, Ok, Err, codes, Option, Result}
+use Rattle.std.specs.Prelude.{◌≡◌, ℕ, [], None, Ok, Err, codes, Result}
 use Rattle.std.specs.declared.cmp.Ordering.TheVariants.{Less}
-use Rattle.std.specs.declared.cmp.Ordering.{Ordering}
-use Rattle.text.specs.declared.fault.FaultReport.{FaultReport}
 use Rattle.text.specs.Bytes.{Bytes}
 use Rattle.paths.specs.declared.fault.PathFault.{PathFault}
-use Rattle.keys.specs.declared.file.MetadataFile.{MetadataFile}
 use Rattle.keys.specs.declared.file.MetadataFile.TheVariants.{ZarrJson}
 use Rattle.paths.specs.Faults.{told_of_path}
 use Rattle.keys.specs.MetadataKeys.{metadata_key}

@@ -1,6 +1,6 @@
 -- Keys of a store, and prefixes of keys.
 -- Assumes nothing.
-use Rattle.std.specs.Prelude.{ℕ, Bool, true, false, cond, not, ◌&&◌, List, [], ◌∷◌, length, Some, None, Ok, Err, Option, Result, ◌==◌, nat_le}
+use Rattle.std.specs.Prelude.{Bool, true, false, cond, not, ◌&&◌, [], ◌∷◌, length, Some, None, Ok, Err, Option, Result, ◌==◌, nat_le}
 use Rattle.text.specs.Bytes.{Bytes}
 use Rattle.text.specs.Utf8.{is_text}
 use Rattle.keys.specs.declared.fault.StoreFault.{StoreFault}

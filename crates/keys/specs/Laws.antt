@@ -1,6 +1,6 @@
 -- What the definitions of keys and prefixes amount to, in plain words, so that a contract can name it.
 -- Assumes nothing.
-use Rattle.std.specs.Prelude.{◌≡◌, ℕ, ◌≤◌, Bool, true, false, ◌⊎◌, ◌↔◌, List, [], ◌∷◌, ◌++◌, length, Some, Ok}
+use Rattle.std.specs.Prelude.{◌≡◌, ◌≤◌, Bool, true, false, ◌⊎◌, ◌↔◌, List, [], ◌∷◌, ◌++◌, length, Some, Ok}
 use Rattle.text.specs.Bytes.{Bytes, stripped}
 use Rattle.paths.specs.Paths.{Path, are_names, is_path, split, AtOrBelow}
 use Rattle.keys.specs.declared.file.MetadataFile.{MetadataFile}

@@ -1,6 +1,6 @@
 -- The keys under which a node's metadata and its chunks lie in a store, and the prefix under which all of a group lies.
 -- Assumes nothing.
-use Rattle.std.specs.Prelude.{ℕ, List, [], ◌∷◌, ◌++◌, Ok, codes, Result}
+use Rattle.std.specs.Prelude.{ℕ, [], ◌∷◌, ◌++◌, Ok, codes, Result}
 use Rattle.text.specs.Bytes.{Bytes}
 use Rattle.paths.specs.declared.fault.PathFault.{PathFault}
 use Rattle.keys.specs.declared.fault.StoreFault.{StoreFault}

@@ -8,5 +8,5 @@ use Rattle.keys.proofs.key.data_key.Goals as goal
 
 pub returns-in-None : goal.returns-in-None
 returns-in-None c =
-    let k : Bytes = prefix_of (names_of c.args.path.now) ++ c.args.chunk-key.now in
+    let k : Bytes = prefix_of (names_of c.args.path.now) ++ c.args.chunk_key.now in
     sym (ap (λ (b : Bool). cond b (Ok k) (Err Malformed)) (long_no_key k c.in-None.ensures))

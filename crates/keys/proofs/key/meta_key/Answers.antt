@@ -1,4 +1,4 @@
-use Rattle.std.proofs.Common.{◌++◌, length, sym, ap, ◌∙◌, arith}
+use Rattle.std.proofs.Common.{◌++◌, length, ap, ◌∙◌, arith}
 use Rattle.text.specs.Bytes.{Bytes}
 use Rattle.paths.specs.declared.node_path.NodePath.{NodePath}
 use Rattle.keys.specs.Keys.{is_key}
@@ -13,7 +13,7 @@ unreachable-requires c =
     let v : NodePath = c.args.path.now in
     omega (arith, c.in-None.ensures, ap (λ (u : Bytes). length (prefix_of (names_of v) ++ u)) c.name.ensures, key_within (names_of v) c.args.file (within v))
 
-pub invariant-of-result : goal.invariant-of-result
-invariant-of-result c =
+pub invariant_of-result : goal.invariant_of-result
+invariant_of-result c =
     let v : NodePath = c.args.path.now in
-    (ap is_key (c.in-Some.ensures ∙ ap (λ (u : Bytes). prefix_of (names_of v) ++ u) c.name.ensures) ∙ key_of_path (names_of v) c.args.file (is_path_lem v), tt)
+    record { well = ap is_key (c.in-Some.ensures ∙ ap (λ (u : Bytes). prefix_of (names_of v) ++ u) c.name.ensures) ∙ key_of_path (names_of v) c.args.file (is_path_lem v) }

@@ -1,4 +1,4 @@
-use Rattle.std.proofs.Common.{[], ◌++◌, length, ap, ◌∙◌, append-nil, arith}
+use Rattle.std.proofs.Common.{length, ap, ◌∙◌, append-nil, arith}
 use Rattle.text.specs.Bytes.{Bytes}
 use Rattle.paths.specs.declared.node_path.NodePath.{NodePath}
 use Rattle.keys.specs.Keys.{is_prefix}
@@ -13,7 +13,7 @@ unreachable-requires c =
     let v : NodePath = c.args.path.now in
     omega (arith, c.in-None.ensures, ap (λ (u : Bytes). length u) (append-nil (prefix_of (names_of v))), prefix_within (names_of v) (within v))
 
-pub invariant-of-result : goal.invariant-of-result
-invariant-of-result c =
+pub invariant_of-result : goal.invariant_of-result
+invariant_of-result c =
     let v : NodePath = c.args.path.now in
-    (ap is_prefix (c.in-Some.ensures ∙ append-nil (prefix_of (names_of v))) ∙ prefix_of_path (names_of v) (is_path_lem v), tt)
+    record { well = ap is_prefix (c.in-Some.ensures ∙ append-nil (prefix_of (names_of v))) ∙ prefix_of_path (names_of v) (is_path_lem v) }
