@@ -1,11 +1,11 @@
 -- An absent key is let go without a change.
 -- Assumes nothing.
-use Rattle.std.proofs.Common.{◌≡◌, ℕ, Bool, true, false, cond, leb, List, [], ◌∷◌, length, Some, None, Ok, Err, Option, Result, sym, refl, ap, ◌∙◌, arith}
-use Rattle.keys.specs.declared.fault.StoreFault.TheVariants.{Malformed, Longer}
+use Rattle.std.proofs.Common.{◌≡◌, ℕ, Bool, true, false, cond, leb, [], ◌∷◌, length, Some, None, Ok, Err, Option, sym, refl, arith}
+use Rattle.keys.specs.declared.fault.StoreFault.TheVariants.{Longer}
 use Rattle.text.specs.Bytes.{Bytes, same}
 use Rattle.stores.specs.WellFormed.{well_key}
 use Rattle.stores.specs.Pairs.{Pair, Pairs, lookup, removed}
-use Rattle.stores.specs.Answers.{Found, got, guarded, fitted, answer}
+use Rattle.stores.specs.Answers.{got, guarded, fitted, answer}
 use Rattle.stores.specs.Meaning.{Meaning, Erase}
 
 removed-step : (k : Bytes) (a : Pair) (ps : Pairs) (b : Bool) → same k a.key ≡ b → lookup k (a ∷ ps) ≡ None → (lookup k ps ≡ None → removed k ps ≡ ps) → removed k (a ∷ ps) ≡ (a ∷ ps)

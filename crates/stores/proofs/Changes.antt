@@ -1,15 +1,15 @@
 -- What one key's insertion or removal does to the other keys, to the order and to the keys' form.
 -- Assumes nothing.
-use Rattle.std.proofs.Common.{◌≡◌, ℕ, Bool, true, false, cond, ◌||◌, ◌⊎◌, List, [], ◌∷◌, length, Some, None, Ok, Err, Option, Result, sym, refl, ap, ◌∙◌, subst, inl, inr, arith}
+use Rattle.std.proofs.Common.{◌≡◌, ℕ, Bool, true, false, ◌||◌, [], ◌∷◌, length, None, Ok, Err, Option, Result, sym, refl, ap, ◌∙◌, subst, inl, inr, arith}
 use Rattle.keys.specs.declared.fault.StoreFault.{StoreFault}
 use Rattle.keys.specs.declared.fault.StoreFault.TheVariants.{Malformed, NotTaken, NotLetGo}
 use Rattle.text.specs.Bytes.{Bytes, same, before}
 use Rattle.stores.specs.WellFormed.{well_key}
-use Rattle.stores.specs.Pairs.{Pair, Pairs, pair, lookup, inserted, removed, AllAbove, AllKeys, Ascends, Lawful}
-use Rattle.stores.specs.Answers.{got, guarded, decided, fitted, absent, put, erased}
-use Rattle.stores.specs.Meaning.{Meaning, Kept, Wrote, Set, Erase}
+use Rattle.stores.specs.Pairs.{Pair, Pairs, lookup, inserted, removed, AllAbove, AllKeys, Ascends, Lawful}
+use Rattle.stores.specs.Answers.{got, guarded, decided, fitted, absent}
+use Rattle.stores.specs.Meaning.{Meaning, Wrote}
 use Rattle.stores.specs.Laws.{EraseThenGet, OtherKeysStay, WritesKeepLawful}
-use Rattle.text.proofs.Order.{Either, same_refl, same_eq, before_not_same, before_trans, before_either}
+use Rattle.text.proofs.Order.{Either, same_refl, same_eq, before_not_same, before_either}
 use Rattle.stores.proofs.Mounts.{above_trans}
 
 -- ---- other keys

@@ -1,6 +1,6 @@
 -- What a prefix view shows: look-up, insertion and removal below, and the same above.
 -- Assumes nothing.
-use Rattle.std.proofs.Common.{◌≡◌, ℕ, ◌+◌, ◌-◌, ◌<◌, ◌≤◌, Bool, true, false, cond, ◌&&◌, eqb, ltb, leb, List, [], ◌∷◌, ◌++◌, length, Some, None, Ok, Err, Option, sym, refl, ap, ◌∙◌, subst, arith, length-append}
+use Rattle.std.proofs.Common.{◌≡◌, ℕ, ◌+◌, ◌-◌, ◌<◌, ◌≤◌, Bool, true, false, cond, ◌&&◌, eqb, leb, [], ◌∷◌, ◌++◌, length, Some, None, Err, Option, sym, refl, ap, ◌∙◌, subst, arith, length-append}
 use Rattle.std.proofs.lemmas.Bool.Decides.{nat_tests}
 use Rattle.text.specs.Bytes.{Bytes, same, before, stripped}
 use Rattle.text.specs.Utf8.{is_text}
@@ -8,10 +8,10 @@ use Rattle.text.proofs.Texts.{text_append}
 use Rattle.keys.specs.Keys.{key_form, prefix_form}
 use Rattle.keys.proofs.KeyForms.{form_in_front}
 use Rattle.stores.specs.WellFormed.{well_key}
-use Rattle.stores.specs.Pairs.{Pair, Pairs, pair, lookup, inserted, removed, mounted, consed, AllAbove, AllKeys, Ascends, Lawful}
+use Rattle.stores.specs.Pairs.{Pair, Pairs, pair, lookup, inserted, removed, mounted, AllAbove, AllKeys, Ascends, Lawful}
 use Rattle.keys.specs.declared.fault.StoreFault.TheVariants.{Malformed}
 use Rattle.stores.specs.Answers.{got, guarded, fitted}
-use Rattle.text.proofs.Order.{same_refl, before_not_same, before_trans, strip_append, same-under, same_apart, before-under}
+use Rattle.text.proofs.Order.{before_not_same, before_trans, strip_append, same-under, same_apart, before-under}
 
 pub and_false : (b : Bool) → (b && false) ≡ false
 and_false true = refl

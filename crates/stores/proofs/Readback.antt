@@ -1,14 +1,14 @@
 -- What was set is read back.
 -- Assumes nothing.
-use Rattle.std.proofs.Common.{◌≡◌, ℕ, Bool, true, false, cond, leb, List, [], ◌∷◌, ◌++◌, length, drop, IfOk, Some, None, Ok, Err, Option, Result, sym, refl, ap, ◌∙◌, arith}
+use Rattle.std.proofs.Common.{◌≡◌, ℕ, Bool, true, false, cond, leb, [], ◌∷◌, ◌++◌, length, drop, IfOk, Some, Ok, Err, Result, refl, arith}
 use Rattle.keys.specs.declared.fault.StoreFault.{StoreFault}
 use Rattle.keys.specs.declared.fault.StoreFault.TheVariants.{Malformed, Longer, NotTaken}
 use Rattle.text.specs.Bytes.{Bytes, same, before}
 use Rattle.stores.specs.WellFormed.{well_key}
 use Rattle.stores.specs.Pairs.{Pair, Pairs, lookup, inserted}
-use Rattle.stores.specs.Answers.{Found, got, guarded, decided, fitted, answer, filled, done, put}
-use Rattle.stores.specs.Meaning.{Meaning, Kept, Wrote, Set}
-use Rattle.text.proofs.Order.{same_refl, before_not_same}
+use Rattle.stores.specs.Answers.{Found, got, guarded, decided, fitted, answer, filled}
+use Rattle.stores.specs.Meaning.{Meaning, Wrote, Set}
+use Rattle.text.proofs.Order.{same_refl}
 
 lookup_in : (k v : Bytes) (a : Pair) (ps : Pairs) (s b : Bool) → same k a.key ≡ s → before k a.key ≡ b → lookup k (inserted k v ps) ≡ Some v → lookup k (inserted k v (a ∷ ps)) ≡ Some v
 lookup_in k v a ps true b es eb ih = simp (es, same_refl k)

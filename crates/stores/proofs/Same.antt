@@ -1,10 +1,10 @@
 -- Equal stores answer alike, and pairs are told by their look-ups.
 -- Assumes nothing.
-use Rattle.std.proofs.Common.{◌≡◌, ℕ, Bool, true, false, cond, ◌⊎◌, List, [], ◌∷◌, Some, None, Option, sym, refl, ap, ◌∙◌, subst, inl, inr, arith}
+use Rattle.std.proofs.Common.{◌≡◌, ℕ, Bool, true, false, [], ◌∷◌, Some, None, sym, refl, ap, ◌∙◌, subst, inl, inr, arith}
 use Rattle.text.specs.Bytes.{Bytes, same, before}
 use Rattle.stores.specs.Pairs.{Pair, Pairs, pair, lookup, AllAbove, Ascends}
 use Rattle.stores.specs.Answers.{got, key_after, child_after}
-use Rattle.stores.specs.Laws.{Alike, EqualStoresAnswerAlike, LookUpsTellPairs}
+use Rattle.stores.specs.Laws.{EqualStoresAnswerAlike, LookUpsTellPairs}
 use Rattle.text.proofs.Order.{Either, same_refl, same_eq, before_either}
 use Rattle.stores.proofs.Mounts.{above_trans}
 use Rattle.stores.proofs.Changes.{above_absent}

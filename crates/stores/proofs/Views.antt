@@ -1,6 +1,6 @@
 -- A call below, seen through a prefix.
 -- Assumes nothing.
-use Rattle.std.proofs.Common.{◌≡◌, ℕ, ◌+◌, ◌-◌, ◌<◌, ◌≤◌, Bool, true, false, cond, ◌||◌, List, [], ◌∷◌, ◌++◌, length, Ok, Err, Option, Result, sym, refl, ap, ◌∙◌, arith}
+use Rattle.std.proofs.Common.{◌≡◌, ℕ, ◌+◌, ◌-◌, ◌<◌, ◌≤◌, Bool, true, false, ◌||◌, ◌++◌, length, Ok, Err, Option, Result, sym, refl, ap, ◌∙◌}
 use Rattle.keys.specs.declared.fault.StoreFault.{StoreFault}
 use Rattle.keys.specs.declared.fault.StoreFault.TheVariants.{Malformed, NotTaken, NotLetGo}
 use Rattle.text.specs.Bytes.{Bytes}

@@ -1,10 +1,10 @@
 -- What a store means: its pairs, its longest key, what it takes and what it lets go; and each call that writes as a relation between the meaning before and after it.
 -- Assumes nothing.
-use Rattle.std.specs.Prelude.{◌≡◌, ℕ, ◌-◌, Bool, List, [], ◌∷◌, ◌++◌, length, Ok, Err, Result}
+use Rattle.std.specs.Prelude.{◌≡◌, ℕ, ◌-◌, Bool, ◌++◌, length, Ok, Err, Result}
 use Rattle.keys.specs.declared.fault.StoreFault.{StoreFault}
 use Rattle.text.specs.Bytes.{Bytes}
 use Rattle.stores.specs.Pairs.{Pairs, mounted}
-use Rattle.stores.specs.Answers.{put, erased, done, after}
+use Rattle.stores.specs.Answers.{put, erased, done}
 
 pub record Meaning : Type 0 where
   pub pairs : Pairs

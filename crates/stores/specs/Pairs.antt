@@ -1,6 +1,6 @@
 -- The pairs of a store, strictly ascending by the bytes of their keys, so that stores with the same pairs have equal lists; and what is looked up, inserted, removed and listed in them.
 -- Assumes nothing.
-use Rattle.std.specs.Prelude.{◌≡◌, ℕ, ◌+◌, ◌≤◌, Bool, true, false, cond, ◌&&◌, List, [], ◌∷◌, ◌++◌, length, Some, None, Option, ◌==◌}
+use Rattle.std.specs.Prelude.{◌≡◌, ℕ, ◌≤◌, true, cond, List, [], ◌∷◌, Some, None, Option, ◌==◌}
 use Rattle.text.specs.Bytes.{Bytes, same, before, stripped}
 use Rattle.stores.specs.WellFormed.{well_key}
 

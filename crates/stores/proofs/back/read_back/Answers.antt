@@ -13,7 +13,7 @@ returns g c =
     let n = length c.args.buf.now in
     let before : Meaning = means (g.S.ReadStore.pairs s) (g.S.ReadStore.longest s) (g.S.WriteStore.takes s) (g.S.WriteStore.lets s) in
     let after : Meaning = means (g.S.ReadStore.pairs t) (g.S.ReadStore.longest t) (g.S.WriteStore.takes t) (g.S.WriteStore.lets t) in
-    let e = read_after k v before after c.set.result n c.set.ensures.means c.in-ok-set.was in
+    let e = read_after k v before after c.set.result n c.set.ensures.means c.in_ok-set.was in
     let f = got (g.S.ReadStore.longest t) (g.S.ReadStore.pairs t) k n in
     record {
       ties = c.set.ensures.ties;

@@ -1,5 +1,4 @@
-use Rattle.std.proofs.Common.{◌≡◌, length, None, Ok, refl}
-use Rattle.stores.specs.Answers.{Found, got}
+use Rattle.std.proofs.Common.{length, refl}
 use Rattle.stores.specs.Meaning.{Meaning, means}
 use Rattle.stores.proofs.Changes.{erase_then_get_lem}
 use Rattle.stores.proofs.back.read_gone.Goals as goal
@@ -12,7 +11,7 @@ returns g c =
     let n = length c.args.buf.now in
     let before : Meaning = means (g.S.ReadStore.pairs s) (g.S.ReadStore.longest s) (g.S.WriteStore.takes s) (g.S.WriteStore.lets s) in
     let after : Meaning = means (g.S.ReadStore.pairs t) (g.S.ReadStore.longest t) (g.S.WriteStore.takes t) (g.S.WriteStore.lets t) in
-    let e = erase_then_get_lem k before after c.erase.result n (g.S.ReadStore.lawful s) c.erase.ensures.means c.in-ok-erase.was in
+    let e = erase_then_get_lem k before after c.erase.result n (g.S.ReadStore.lawful s) c.erase.ensures.means c.in_ok-erase.was in
     record {
       ties = c.erase.ensures.ties;
       answers = rw (c.get.ensures.answers, e) refl;
