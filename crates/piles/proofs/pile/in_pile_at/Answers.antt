@@ -10,10 +10,10 @@ use Rattle.piles.proofs.pile.in_pile_at.Goals as goal
 
 pub returns-in-Ok : goal.returns-in-Ok
 returns-in-Ok g c = record {
-  ties = c.in-pile.ensures.ties;
+  ties = c.in_pile.ensures.ties;
   does =
       done_at (meaning_of g.S.ReadStore.pairs g.S.ReadStore.longest g.S.WriteStore.takes g.S.WriteStore.lets) (λ p m. guard c.args.outer.now.rows (view p (guard c.args.inner.now.rows m))) g.W.Work.does (room_for (g.S.ReadStore.longest c.args.store.now) (prefix_of (names_of c.args.path.now)))
-      (prefix_text c.in-Ok.front) c.args.store.now c.in-pile.new.store c.args.worker.now c.in-pile.new.worker c.in-pile.result c.in-Ok.ensures c.in-pile.ensures.does c.in-pile.ensures.keeps;
+      (prefix_text c.in-Ok.front) c.args.store.now c.in_pile.new.store c.args.worker.now c.in_pile.new.worker c.in_pile.result c.in-Ok.ensures c.in_pile.ensures.does c.in_pile.ensures.keeps;
 }
 
 pub returns-in-Err : goal.returns-in-Err

@@ -10,10 +10,10 @@ use Rattle.piles.proofs.put.put_piled.Goals as goal
 
 pub returns-in-Ok : goal.returns-in-Ok
 returns-in-Ok g c = record {
-  ties = c.in-pile.ensures.ties;
+  ties = c.in_pile.ensures.ties;
   means =
       granted_at (meaning_of g.S.ReadStore.pairs g.S.ReadStore.longest g.S.WriteStore.takes g.S.WriteStore.lets) (λ p m. guard c.args.outer.now.rows (view p (guard c.args.inner.now.rows m))) (room_for (g.S.ReadStore.longest c.args.store.now) (prefix_of (names_of c.args.path.now)))
-      (prefix_text c.in-Ok.front) c.args.key.now c.args.value.now c.args.store.now c.in-pile.new.store c.in-pile.result c.flat.result c.in-Ok.ensures c.flat.ensures c.in-pile.ensures.does c.in-pile.ensures.keeps;
+      (prefix_text c.in-Ok.front) c.args.key.now c.args.value.now c.args.store.now c.in_pile.new.store c.in_pile.result c.flat.result c.in-Ok.ensures c.flat.ensures c.in_pile.ensures.does c.in_pile.ensures.keeps;
 }
 
 pub returns-in-Err : goal.returns-in-Err
