@@ -3,8 +3,8 @@ use Rattle.text.specs.Bytes.{Bytes}
 use Rattle.mounts.proofs.Cuts.{take_two, take_few}
 use Rattle.mounts.proofs.parts.joined_cut.Goals as goal
 
-pub overflow-sub-first : goal.overflow-sub-first
-overflow-sub-first c = rw c.cut-first.ensures (take_few 400 c.args.front.now)
+pub overflow_sub-first : goal.overflow_sub-first
+overflow_sub-first c = rw c.cut-first.ensures (take_few 400 c.args.front.now)
 
 pub unreachable-requires : goal.unreachable-requires
 unreachable-requires c =

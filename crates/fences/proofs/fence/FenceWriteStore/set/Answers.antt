@@ -1,4 +1,4 @@
-use Rattle.std.proofs.Common.{◌≡◌, Bool, true, false, not, ◌&&◌, length, sym, refl, ap, ◌∙◌, rules}
+use Rattle.std.proofs.Common.{length, sym, refl, ap, ◌∙◌}
 use Rattle.stores.specs.Meaning.{Meaning, means}
 use Rattle.fences.specs.Rows.{fenced}
 use Rattle.fences.specs.Guard.{guard, presence}

@@ -1,6 +1,4 @@
-use Rattle.std.proofs.Common.{◌≡◌, true, false, ltb, [], sym, refl, ap, ◌∙◌, arith, rules, lt-ltb}
-use Rattle.keys.specs.Values.{prefix_text}
-use Rattle.fences.specs.Rows.{Stake, stake, stakes}
+use Rattle.std.proofs.Common.{arith, lt-ltb}
 use Rattle.fences.proofs.Fronts.{lowers}
 use Rattle.fences.proofs.table.Rows.lower.Goals as goal
 

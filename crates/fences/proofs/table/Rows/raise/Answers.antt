@@ -1,6 +1,5 @@
-use Rattle.std.proofs.Common.{◌≡◌, true, false, ltb, sym, refl, ap, ◌∙◌, arith, rules, lt-ltb}
+use Rattle.std.proofs.Common.{◌≡◌, false, ltb, arith, lt-ltb}
 use Rattle.std.proofs.lemmas.Bool.Decides.{nat_tests}
-use Rattle.keys.specs.Values.{prefix_in}
 use Rattle.fences.proofs.Fronts.{raises, raise_past, raise_malformed}
 use Rattle.fences.proofs.table.Rows.raise.Goals as goal
 

@@ -15,7 +15,7 @@ returns-in-Some g c =
     let k = c.args.key.now in
     let before : Meaning = means (g.S.ReadStore.pairs m.store.now) (g.S.ReadStore.longest m.store.now) (g.S.WriteStore.takes m.store.now) (g.S.WriteStore.lets m.store.now) in
     let after : Meaning = means (g.S.ReadStore.pairs t) (g.S.ReadStore.longest t) (g.S.WriteStore.takes t) (g.S.WriteStore.lets t) in
-    let w : c.as-bytes-in-Some.result.now ≡ p ++ k = c.as-bytes-in-Some.ensures ∙ c.in-Some.ensures ∙ ap (λ (t : Bytes). t ++ k) c.as-bytes.ensures in
+    let w : c.as_bytes-in-Some.result.now ≡ p ++ k = c.as_bytes-in-Some.ensures ∙ c.in-Some.ensures ∙ ap (λ (t : Bytes). t ++ k) c.as_bytes.ensures in
     let s : Erase (p ++ k) before after c.erase.result = subst (λ (x : Bytes). Erase x before after c.erase.result) w c.erase.ensures.means in
     record { ties = (refl, refl, c.erase.ensures.ties, outside_erase p k before after c.erase.result s); means = erase_view p k before after c.erase.result (front_form m.front.now) (front_text m.front.now) s }
 
@@ -26,5 +26,5 @@ returns-in-None g c =
     let k = c.args.key.now in
     let below : Meaning = means (g.S.ReadStore.pairs m.store.now) (g.S.ReadStore.longest m.store.now) (g.S.WriteStore.takes m.store.now) (g.S.WriteStore.lets m.store.now) in
     let s : g.S.ReadStore.longest m.store.now ≤ 400 = (g.S.ReadStore.lawful m.store.now).short in
-    let o : 400 < length p + length k = let b = ap length c.as-bytes.ensures in let a = c.in-None.ensures in omega arith in
+    let o : 400 < length p + length k = let b = ap length c.as_bytes.ensures in let a = c.in-None.ensures in omega arith in
     record { ties = (refl, refl, g.S.WriteStore.still m.store.now, λ j e. refl); means = erase_long p k below s o }
