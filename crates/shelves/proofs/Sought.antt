@@ -1,6 +1,6 @@
 -- Pairs in parts: what is inserted or removed between those with smaller keys and those with greater ones.
 -- Assumes nothing.
-use Rattle.std.proofs.Common.{◌≡◌, ℕ, suc, ◌+◌, ◌-◌, ◌<◌, Bool, true, false, List, [], ◌∷◌, ◌++◌, length, get_or, drop, None, sym, refl, ap, ◌∙◌, arith}
+use Rattle.std.proofs.Common.{◌≡◌, ℕ, suc, ◌+◌, ◌<◌, Bool, true, false, List, [], ◌∷◌, ◌++◌, length, get_or, drop, None, sym, refl, ap, ◌∙◌, arith}
 use Rattle.text.specs.Bytes.{Bytes, same, before}
 use Rattle.text.proofs.Order.{same_refl, same_eq, before_not_same, before_asym, before-alone}
 use Rattle.keys.specs.Values.{key_text}

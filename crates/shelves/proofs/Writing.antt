@@ -1,6 +1,6 @@
 -- What the calls that write say, by what was found.
 -- Assumes nothing.
-use Rattle.std.proofs.Common.{◌≡◌, ℕ, ◌+◌, ◌-◌, ◌<◌, ◌≤◌, Bool, true, false, cond, ◌&&◌, ◌||◌, leb, List, length, get_or, replicate, Ok, Err, Result, sym, refl, ap, ◌∙◌, inl, inr, arith, le-leb, leb-true}
+use Rattle.std.proofs.Common.{◌≡◌, ℕ, ◌+◌, ◌<◌, ◌≤◌, Bool, true, false, cond, ◌&&◌, ◌||◌, leb, List, length, get_or, replicate, Ok, Err, Result, sym, refl, ap, ◌∙◌, inl, inr, arith, le-leb, leb-true}
 use borrow.Author.Tests.{lt-leb, both_ways}
 use Rattle.std.proofs.lemmas.List.{length-replicate}
 use Rattle.text.specs.Bytes.{Bytes, before}

@@ -17,8 +17,8 @@ returns g c =
     let a = (g.R.PairRun.lawful s).ascends in
     let t : Bytes = c.args.text.now in
     let i : ℕ = c.seek-i.result in
-    let e : c.comes-before.result ≡ before (key_at ps i) (t ++ (48 ∷ [])) = c.comes-before.ensures ∙ ap (λ (k : Bytes). before k (t ++ (48 ∷ []))) c.key-at.ensures in
-    (elim c.comes-before.result as (λ (b : Bool). b ≡ before (key_at ps i) (t ++ (48 ∷ [])) → Leads ps t b) [
+    let e : c.comes_before.result ≡ before (key_at ps i) (t ++ (48 ∷ [])) = c.comes_before.ensures ∙ ap (λ (k : Bytes). before k (t ++ (48 ∷ []))) c.key_at.ensures in
+    (elim c.comes_before.result as (λ (b : Bool). b ≡ before (key_at ps i) (t ++ (48 ∷ [])) → Leads ps t b) [
       | true ↦ λ q. leads_here ps a t i c.seek-i.ensures (omega arith) (sym q)
       | false ↦ λ q. leads_past ps a t i c.seek-i.ensures (sym q)
     ]) e

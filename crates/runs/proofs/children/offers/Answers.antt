@@ -9,4 +9,4 @@ front-requires g c = omega (arith, ap length c.behind.ensures ∙ length-drop c.
 pub returns : goal.returns
 returns g c =
     offers_of (g.R.PairRun.pairs c.args.run.now) c.args.key.now c.args.from c.args.after.now c.args.m c.front.result.now c.front-2.result.now
-    (c.front.ensures ∙ ap (take c.args.m) c.behind.ensures) c.front-2.ensures c.if-not-is-before.ensures c.leads.result c.leads.ensures
+    (c.front.ensures ∙ ap (take c.args.m) c.behind.ensures) c.front-2.ensures c.if-not-is_before.ensures c.leads.result c.leads.ensures

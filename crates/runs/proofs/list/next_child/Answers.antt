@@ -9,19 +9,19 @@ use Rattle.runs.proofs.Found.{child_after_of, child_after_malformed}
 use Rattle.runs.proofs.Offspring.{none_next, next_child_is}
 use Rattle.runs.proofs.list.next_child.Goals as goal
 
-pub returns-then-not-is-prefix : goal.returns-then-not-is-prefix
-returns-then-not-is-prefix g c =
+pub returns-then-not-is_prefix : goal.returns-then-not-is_prefix
+returns-then-not-is_prefix g c =
     let ps = g.R.PairRun.pairs c.args.run.now in
     let p : Bytes = c.args.prefix.now in
     let a : Bytes = c.args.after.now in
     let b : Bytes = c.args.buf.now in
-    let e : child_after 400 ps p a (length b) ≡ Err Malformed = child_after_malformed ps p a (length b) (sym c.if-not-is-prefix.ensures) in
+    let e : child_after 400 ps p a (length b) ≡ Err Malformed = child_after_malformed ps p a (length b) (sym c.if-not-is_prefix.ensures) in
     record { answers = sym (ap answer e); fills = sym (ap (λ (f : Found). filled f b) e) }
 
 pub front-requires : goal.front-requires
 front-requires g c =
-    let k : length c.key-at-key.result.now ≡ length (key_at (g.R.PairRun.pairs c.args.run.now) c.in-Some.i) = ap length c.key-at-key.ensures in
-    let b = ap length c.behind.ensures ∙ length-drop (length c.args.prefix.now) c.key-at-key.result.now in
+    let k : length c.key_at-key.result.now ≡ length (key_at (g.R.PairRun.pairs c.args.run.now) c.in-Some.i) = ap length c.key_at-key.ensures in
+    let b = ap length c.behind.ensures ∙ length-drop (length c.args.prefix.now) c.key_at-key.result.now in
     omega (arith, c.shortest-m.ensures.within, c.in-Some.ensures.2)
 
 pub returns-in-None : goal.returns-in-None
@@ -30,7 +30,7 @@ returns-in-None g c =
     let p : Bytes = c.args.prefix.now in
     let a : Bytes = c.args.after.now in
     let b : Bytes = c.args.buf.now in
-    let e : child_after 400 ps p a (length b) ≡ Ok None = child_after_of ps p a (length b) None (sym c.if-not-is-prefix.ensures) (none_next ps p a c.in-None.ensures) in
+    let e : child_after 400 ps p a (length b) ≡ Ok None = child_after_of ps p a (length b) None (sym c.if-not-is_prefix.ensures) (none_next ps p a c.in-None.ensures) in
     record { answers = sym (ap answer e); fills = sym (ap (λ (f : Found). filled f b) e) }
 
 pub returns-in-Some : goal.returns-in-Some
@@ -45,10 +45,10 @@ returns-in-Some g c =
     let m : ℕ = c.shortest-m.result in
     let t : Bytes = take n (drop (length p) (key_at ps i)) in
     let long : length t ≡ n = length-take-le n (drop (length p) (key_at ps i)) (omega (arith, c.in-Some.ensures.2, length-drop (length p) (key_at ps i))) in
-    let f : First ps (key_at ps i) (length p) a n m = subst (λ (k : Bytes). First ps k (length p) a n m) c.key-at-key.ensures c.shortest-m.ensures in
+    let f : First ps (key_at ps i) (length p) a n m = subst (λ (k : Bytes). First ps k (length p) a n m) c.key_at-key.ensures c.shortest-m.ensures in
     let u : Bytes = c.front.result.now in
-    let ue : take m (drop (length p) (key_at ps i)) ≡ u = sym (c.front.ensures ∙ ap (take m) (c.behind.ensures ∙ ap (drop (length p)) c.key-at-key.ensures)) in
+    let ue : take m (drop (length p) (key_at ps i)) ≡ u = sym (c.front.ensures ∙ ap (take m) (c.behind.ensures ∙ ap (drop (length p)) c.key_at-key.ensures)) in
     let e : child_after 400 ps p a (length b) ≡ fitted (length b) (Some u) =
-    child_after_of ps p a (length b) (Some u) (sym c.if-not-is-prefix.ensures)
+    child_after_of ps p a (length b) (Some u) (sym c.if-not-is_prefix.ensures)
     (next_child_is ps (g.R.PairRun.lawful s).ascends p a i n m c.in-Some.ensures.0 c.in-Some.ensures.1 t c.in-Some.ensures.3 c.in-Some.ensures.4 long f ∙ ap Some ue) in
-    record { answers = c.hand-out.ensures.answers ∙ sym (ap answer e); fills = c.hand-out.ensures.fills ∙ sym (ap (λ (x : Found). filled x b) e) }
+    record { answers = c.hand_out.ensures.answers ∙ sym (ap answer e); fills = c.hand_out.ensures.fills ∙ sym (ap (λ (x : Found). filled x b) e) }

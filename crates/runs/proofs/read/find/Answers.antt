@@ -14,7 +14,7 @@ pub returns-then-not-equal : goal.returns-then-not-equal
 returns-then-not-equal g c =
     let s = c.args.run.now in
     let k : Bytes = c.args.key.now in
-    absent_here (g.R.PairRun.pairs s) (g.R.PairRun.lawful s).ascends k c.seek-i.result c.seek-i.ensures (omega arith) (ap (same k) (sym c.key-at.ensures) ∙ sym c.if-not-equal.ensures)
+    absent_here (g.R.PairRun.pairs s) (g.R.PairRun.lawful s).ascends k c.seek-i.result c.seek-i.ensures (omega arith) (ap (same k) (sym c.key_at.ensures) ∙ sym c.if-not-equal.ensures)
 
 pub returns : goal.returns
 returns g c =
@@ -22,5 +22,5 @@ returns g c =
     let ps = g.R.PairRun.pairs s in
     let k : Bytes = c.args.key.now in
     let i : ℕ = c.seek-i.result in
-    let e = ap (same k) (sym c.key-at.ensures) ∙ sym c.if-not-equal.ensures in
+    let e = ap (same k) (sym c.key_at.ensures) ∙ sym c.if-not-equal.ensures in
     (omega arith, sym (same_eq k (key_at ps i) e), present ps (g.R.PairRun.lawful s).ascends k i c.seek-i.ensures (omega arith) e)

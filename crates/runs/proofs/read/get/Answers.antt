@@ -9,7 +9,7 @@ returns-in-None g c =
     let ps = g.R.PairRun.pairs c.args.run.now in
     let k : Bytes = c.args.key.now in
     let b : Bytes = c.args.buf.now in
-    let e : got 400 ps k (length b) ≡ Ok None = got_of ps k (length b) None (sym c.if-not-is-key.ensures) c.in-None.ensures in
+    let e : got 400 ps k (length b) ≡ Ok None = got_of ps k (length b) None (sym c.if-not-is_key.ensures) c.in-None.ensures in
     record { answers = sym (ap answer e); fills = sym (ap (λ (f : Found). filled f b) e) }
 
 pub returns-in-Some : goal.returns-in-Some
@@ -17,6 +17,6 @@ returns-in-Some g c =
     let ps = g.R.PairRun.pairs c.args.run.now in
     let k : Bytes = c.args.key.now in
     let b : Bytes = c.args.buf.now in
-    let v : Bytes = c.value-at.result.now in
-    let e : got 400 ps k (length b) ≡ fitted (length b) (Some v) = got_of ps k (length b) (Some v) (sym c.if-not-is-key.ensures) (c.in-Some.ensures.2 ∙ ap Some (sym c.value-at.ensures)) in
-    record { answers = c.hand-out.ensures.answers ∙ sym (ap answer e); fills = c.hand-out.ensures.fills ∙ sym (ap (λ (f : Found). filled f b) e) }
+    let v : Bytes = c.value_at.result.now in
+    let e : got 400 ps k (length b) ≡ fitted (length b) (Some v) = got_of ps k (length b) (Some v) (sym c.if-not-is_key.ensures) (c.in-Some.ensures.2 ∙ ap Some (sym c.value_at.ensures)) in
+    record { answers = c.hand_out.ensures.answers ∙ sym (ap answer e); fills = c.hand_out.ensures.fills ∙ sym (ap (λ (f : Found). filled f b) e) }

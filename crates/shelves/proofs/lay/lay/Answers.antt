@@ -6,8 +6,8 @@ use Rattle.shelves.proofs.Laying.{lay_head, lay_step, lay_end}
 use Rattle.shelves.proofs.Rising.{ascending_from_up, up_from_ascending}
 use Rattle.shelves.proofs.lay.lay.Goals as goal
 
-pub overflow-add-place : goal.overflow-add-place
-overflow-add-place c =
+pub overflow_add-place : goal.overflow_add-place
+overflow_add-place c =
     let t = c.loop-i.rows in
     let s = c.at-slot.result.now in
     let w : t.len ≤ length t.slots.now = omega (arith, c.loop-i.invariant.0, c.loop-i.invariant.1, c.requires.within) in

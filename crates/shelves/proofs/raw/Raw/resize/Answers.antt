@@ -26,15 +26,15 @@ replace-requires c =
       alike = λ y d. (ap (λ (x : Slot). slot_before x y) (c.at-slot.ensures d), ap (λ (x : Slot). slot_before y x) (c.at-slot.ensures d));
     }
 
-pub overflow-sub-self : goal.overflow-sub-self
-overflow-sub-self c =
+pub overflow_sub-self : goal.overflow_sub-self
+overflow_sub-self c =
     let s = c.args.self.now in
     let x = c.at-slot.result.now in
     let z = inside s.rows.slots.now s.rows.len s.bytes.now s.used c.requires.sound c.args.i x c.requires.place in
     omega (arith, z.1, ap (λ (y : Slot). y.size) (c.at-slot.ensures x))
 
-pub overflow-add-place : goal.overflow-add-place
-overflow-add-place c =
+pub overflow_add-place : goal.overflow_add-place
+overflow_add-place c =
     let s = c.args.self.now in
     let x = c.at-slot.result.now in
     let z = inside s.rows.slots.now s.rows.len s.bytes.now s.used c.requires.sound c.args.i x c.requires.place in

@@ -18,4 +18,4 @@ pub returns : goal.returns
 returns c =
     let s = c.args.self.now in
     let t = s.raw.rows in
-    c.as-bytes.ensures ∙ ap (λ (a : Pair). a.key) (sym (pair_at_lem t.slots.now t.len s.raw.bytes.now s.raw.used (sound_of s) c.args.i c.at.result.now (pair [] []) (omega (arith, c.len.ensures)) c.at.ensures))
+    c.as_bytes.ensures ∙ ap (λ (a : Pair). a.key) (sym (pair_at_lem t.slots.now t.len s.raw.bytes.now s.raw.used (sound_of s) c.args.i c.at.result.now (pair [] []) (omega (arith, c.len.ensures)) c.at.ensures))

@@ -15,8 +15,8 @@ returns-then-i-len c =
     let l = many t.slots.now t.len s.raw.bytes.now s.raw.used (sound_of s) in
     ap (λ (a : Pair). a.value) (sym (get_or_past ps c.args.i (pair [] []) (omega (arith, l, c.len.ensures))))
 
-pub overflow-add-result : goal.overflow-add-result
-overflow-add-result c =
+pub overflow_add-result : goal.overflow_add-result
+overflow_add-result c =
     let s = c.args.self.now in
     let t = s.raw.rows in
     let x = c.at-slot.result.now in
@@ -26,8 +26,8 @@ overflow-add-result c =
     let le : x.place + x.size ≤ length s.raw.bytes.now = omega (arith, z.1, p, n, s.short) in
     search rules
 
-pub slice-bounds-result-end-2 : goal.slice-bounds-result-end-2
-slice-bounds-result-end-2 c =
+pub slice_bounds-result-end-2 : goal.slice_bounds-result-end-2
+slice_bounds-result-end-2 c =
     let s = c.args.self.now in
     let t = s.raw.rows in
     let x = c.at-slot.result.now in
