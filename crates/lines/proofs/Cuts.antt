@@ -1,10 +1,10 @@
 -- A line cut at its spaces, byte by byte; and the words of a call by their number.
 -- Assumes nothing.
-use Rattle.std.proofs.Common.{◌≡◌, ℕ, ◌+◌, ◌<◌, ◌≤◌, Bool, true, false, cond, eqb, List, [], ◌∷◌, ◌++◌, map, length, get_or, drop, None, Option, sym, refl, ap, ◌∙◌, append_assoc, arith, eq-eqb, ne_eqb}
+use Rattle.std.proofs.Common.{◌≡◌, ℕ, ◌+◌, ◌<◌, ◌≤◌, cond, List, [], ◌∷◌, ◌++◌, map, length, get_or, drop, None, sym, refl, ap, ◌∙◌, append_assoc, arith, eq-eqb, ne_eqb}
 use Rattle.std.proofs.lemmas.List.{drop_more, drop_all}
 use Rattle.text.specs.Bytes.{Bytes}
 use Rattle.lines.specs.Words.{cut, cut_behind}
-use Rattle.lines.specs.Calls.{Asked, asked, alone, with_one, with_two, with_three}
+use Rattle.lines.specs.Calls.{asked, alone, with_one, with_two, with_three}
 
 module _ {X : Type 0} (f : X → Bytes) where
   map_push : (ws : List X) (w : X) → map f (ws ++ (w ∷ [])) ≡ map f ws ++ (f w ∷ [])

@@ -1,4 +1,4 @@
-use Rattle.std.proofs.Common.{◌≡◌, sym, refl, ap, ◌∙◌, rules}
+use Rattle.std.proofs.Common.{rules}
 use Rattle.lines.proofs.Spellings.{hash_behind}
 use Rattle.lines.proofs.word.digits_of.Goals as goal
 

@@ -1,4 +1,4 @@
-use Rattle.std.proofs.Common.{◌≡◌, ◌+◌, drop, sym, refl, ap, ◌∙◌, arith}
+use Rattle.std.proofs.Common.{◌+◌, drop, sym, ap, ◌∙◌, arith}
 use Rattle.lines.specs.Words.{number_from}
 use Rattle.lines.proofs.Spellings.{number_more, number_end}
 use Rattle.lines.proofs.word.number_of.Goals as goal

@@ -1,13 +1,13 @@
-use Rattle.std.proofs.Common.{◌≡◌, ℕ, ◌+◌, ◌*◌, List, [], ◌∷◌, ◌++◌, get_or, drop, vec_items, sym, refl, ap, ◌∙◌, arith, rules}
-use Rattle.lines.specs.Words.{unhexed, hex_value}
+use Rattle.std.proofs.Common.{ℕ, ◌+◌, List, ◌++◌, drop, vec_items, sym, ap, ◌∙◌, arith, rules}
+use Rattle.lines.specs.Words.{unhexed}
 use Rattle.lines.proofs.Spellings.{hex_parts, unhex_more, unhex_end}
 use Rattle.lines.proofs.word.unhex.Goals as goal
 
-pub hex-value-requires : goal.hex-value-requires
-hex-value-requires c = (hex_parts c.args.digits.now c.loop-i.i (omega arith) c.loop-i.invariant.1).0
+pub hex_value-requires : goal.hex_value-requires
+hex_value-requires c = (hex_parts c.args.digits.now c.loop-i.i (omega arith) c.loop-i.invariant.1).0
 
-pub hex-value-requires-in-loop-i : goal.hex-value-requires-in-loop-i
-hex-value-requires-in-loop-i c = (hex_parts c.args.digits.now c.loop-i.i (omega arith) c.loop-i.invariant.1).1
+pub hex_value-requires-in-loop-i : goal.hex_value-requires-in-loop-i
+hex_value-requires-in-loop-i c = (hex_parts c.args.digits.now c.loop-i.i (omega arith) c.loop-i.invariant.1).1
 
 pub loop-i-preserved : goal.loop-i-preserved
 loop-i-preserved c =
