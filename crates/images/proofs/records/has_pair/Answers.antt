@@ -10,6 +10,6 @@ returns-then-bytes-at-ne1 c = sym (pair_other c.args.bytes.now c.args.at c.if-by
 
 pub returns : goal.returns
 returns c =
-    pair_here c.args.bytes.now c.args.at c.long-key-place.result c.short-key-len.result c.long-value-place.result c.long-value-len.result c.inside-key.result c.inside-value.result
+    pair_here c.args.bytes.now c.args.at c.long-key_place.result c.short-key_len.result c.long-value_place.result c.long-value_len.result c.inside-key.result c.inside-value.result
     (omega arith) c.if-bytes-at-ne1.false
-    c.long-key-place.ensures.is c.short-key-len.ensures.is c.long-value-place.ensures.is c.long-value-len.ensures.is c.inside-key.ensures c.inside-value.ensures
+    c.long-key_place.ensures.is c.short-key_len.ensures.is c.long-value_place.ensures.is c.long-value_len.ensures.is c.inside-key.ensures c.inside-value.ensures

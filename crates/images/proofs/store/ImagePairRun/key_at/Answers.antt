@@ -7,18 +7,18 @@ returns-then-i-self c =
     let s = c.args.self.now in
     sym (listed_past s.bytes.now 0 s.count c.args.i c.if-i-self.true).0
 
-pub overflow-mul-i : goal.overflow-mul-i
-overflow-mul-i c =
+pub overflow_mul-i : goal.overflow_mul-i
+overflow_mul-i c =
     let s = c.args.self.now in
     let h : 15 * c.args.i < 4194304 = place_fits s.granted s.bytes.now s.count c.args.i s.stands c.if-i-self.false in
     search rules
 
-pub key-of-requires : goal.key-of-requires
-key-of-requires c =
+pub key_of-requires : goal.key_of-requires
+key_of-requires c =
     let s = c.args.self.now in
     pair-placed s.granted s.bytes.now s.count c.args.i s.stands c.if-i-self.false
 
 pub returns : goal.returns
 returns c =
     let s = c.args.self.now in
-    c.key-of.ensures ∙ (pair_there s.bytes.now s.count c.args.i c.if-i-self.false).0
+    c.key_of.ensures ∙ (pair_there s.bytes.now s.count c.args.i c.if-i-self.false).0
