@@ -1,15 +1,15 @@
 -- The automaton's answers in the grammar's words.
 -- Assumes nothing.
-use Rattle.std.proofs.Common.{◌≡◌, ℕ, zero, suc, ◌+◌, ◌<◌, ◌≤◌, Bool, true, false, List, [], ◌∷◌, ◌++◌, length, sym, refl, ap, ◌∙◌, subst, append_assoc, append-nil, arith, length-append}
-use Rattle.grammar.specs.Ast.{Json, Items, num}
+use Rattle.std.proofs.Common.{◌≡◌, ℕ, suc, ◌≤◌, Bool, true, false, List, [], ◌∷◌, ◌++◌, length, sym, refl, ap, ◌∙◌, subst, append_assoc, append-nil, arith, length-append}
+use Rattle.grammar.specs.Ast.{Json}
 use Rattle.grammar.specs.Grammar.{Ws, w_none, Padded, padded, Shows, s_num, Text, Viable}
 use Rattle.grammar.specs.Machine.{Stack, St, val, first, members, member, colon, aft, nums, chars, esc, uni, uni_d, seq, lit, Next, bad, go, Out, done, open_end, stuck, step, finish_nums, finish, run, parse}
-use Rattle.grammar.specs.Numbers.{Number, may_end, At}
+use Rattle.grammar.specs.Numbers.{may_end, At}
 use Rattle.grammar.specs.declared.kinds.Phase.{Phase}
-use Rattle.grammar.specs.Laws.{Longest, Says, ParseSays, ParseReads, OneTree}
+use Rattle.grammar.specs.Laws.{Says, ParseSays, ParseReads, OneTree}
 use Rattle.grammar.proofs.Numbers.{ends}
 use Rattle.grammar.proofs.Complete.{turn, c_padded}
-use Rattle.grammar.proofs.Sound.{Open, o_top, Mean, at_val, at_first, at_members, at_member, at_colon, at_aft, at_nums, at_chars, at_esc, at_uni, at_uni_d, at_seq, at_lit, Good, keep, can_end, shut}
+use Rattle.grammar.proofs.Sound.{Open, o_top, Mean, at_val, at_first, at_members, at_member, at_colon, at_aft, at_nums, at_chars, at_esc, at_uni, at_uni_d, at_seq, at_lit, Good, keep, can_end}
 
 pub reads : ParseReads
 reads s j p = (rw append-nil at (c_padded p [] [] tt))

@@ -1,8 +1,8 @@
 -- The compact text.
 -- Assumes nothing.
-use Rattle.std.proofs.Common.{◌≡◌, ℕ, List, [], ◌∷◌, ◌++◌, sym, refl, ap, ◌∙◌, subst, append_assoc, append-nil}
-use Rattle.grammar.specs.Ast.{Json, Items, Members, none, also, mnone, malso}
-use Rattle.grammar.specs.Grammar.{Ws, w_none, Chars, Named, named, Shows, s_null, s_true, s_false, s_num, s_str, s_arr0, s_arr, s_obj0, s_obj, Padded, padded, ShowsItems, i_one, i_more, ShowsMembers, m_one, m_more}
+use Rattle.std.proofs.Common.{ℕ, List, [], ◌∷◌, ◌++◌, ap, subst, append_assoc, append-nil}
+use Rattle.grammar.specs.Ast.{Json, Items, Members, also, mnone, malso}
+use Rattle.grammar.specs.Grammar.{w_none, Named, named, Shows, s_null, s_true, s_false, s_num, s_str, s_arr0, s_arr, s_obj0, s_obj, Padded, padded, ShowsItems, i_one, i_more, ShowsMembers, m_one, m_more}
 use Rattle.grammar.specs.Compact.{print, print_items, print_members}
 use Rattle.grammar.specs.Laws.{CompactShows, CompactReads, CompactStays}
 use Rattle.grammar.proofs.Answered.{reads, one_tree_lem}

@@ -1,34 +1,21 @@
 -- The automaton reads each text of the grammar.
 -- Assumes nothing.
-use Rattle.std.proofs.Common.{◌≡◌, ℕ, zero, suc, Bool, true, false, cond, List, [], ◌∷◌, ◌++◌, sym, refl, ap, ◌∙◌, subst, append_assoc, append-nil, arith}
+use Rattle.std.proofs.Common.{◌≡◌, ℕ, true, List, [], ◌∷◌, ◌++◌, sym, refl, ap, ◌∙◌, append_assoc, append-nil, arith}
 use Rattle.std.proofs.lemmas.Bool.Decides.{nat_tests}
-use Rattle.grammar.specs.Ast.{Json, Items, Members, null, tru, fals, num, str, arr, obj, none, also, mnone, malso}
-use Rattle.grammar.specs.Terminals.{is_blank, is_digit, is_positive, start_of, punct_of, fits, char_of, behind, escape_of, first_of, second_of, pair_tail}
+use Rattle.grammar.specs.Ast.{Json, Items, Members, num, none, also, mnone, malso}
+use Rattle.grammar.specs.Terminals.{is_blank, is_digit, is_positive, start_of, punct_of, behind, pair_tail}
 use Rattle.grammar.specs.Numbers.{is_e, Digits, d_one, d_more, Positive, p_one, p_more, Whole, whole_zero, whole_pos, whole_minus_zero, whole_minus, Mantissa, no_fraction, fraction, Sign, no_sign, some_sign, Number, no_exponent, exponent, next, may_end}
-use Rattle.grammar.specs.declared.kinds.Start.{Start}
 use Rattle.grammar.specs.declared.kinds.Start.TheVariants.{Blank}
 use Rattle.grammar.specs.declared.kinds.Start.TheVariants as start
-use Rattle.grammar.specs.declared.kinds.Punct.{Punct}
-use Rattle.grammar.specs.declared.kinds.Punct.TheVariants.{Space, One, Two, NoPunct}
+use Rattle.grammar.specs.declared.kinds.Punct.TheVariants.{Space, NoPunct}
 use Rattle.grammar.specs.declared.kinds.Class.{Class}
-use Rattle.grammar.specs.declared.kinds.Class.TheVariants.{In, Hex, IsD, CtoF}
-use Rattle.grammar.specs.declared.kinds.Lead.{Lead}
-use Rattle.grammar.specs.declared.kinds.Char.{Char}
-use Rattle.grammar.specs.declared.kinds.Char.TheVariants.{Plain, EndQuote, Back, Long, NoChar}
-use Rattle.grammar.specs.declared.kinds.Escape.{Escape}
-use Rattle.grammar.specs.declared.kinds.Escape.TheVariants.{Simple, CodeUnit, NoEscape}
-use Rattle.grammar.specs.declared.kinds.FirstHex.{FirstHex}
-use Rattle.grammar.specs.declared.kinds.FirstHex.TheVariants.{FirstD, OtherHex, NoFirst}
-use Rattle.grammar.specs.declared.kinds.SecondHex.{SecondHex}
-use Rattle.grammar.specs.declared.kinds.SecondHex.TheVariants.{High}
-use Rattle.grammar.specs.declared.kinds.SecondHex.TheVariants as second
+use Rattle.grammar.specs.declared.kinds.Class.TheVariants.{Hex}
 use Rattle.grammar.specs.declared.kinds.Phase.{Phase}
 use Rattle.grammar.specs.declared.kinds.Phase.TheVariants.{AtMinus, AtZero, AtWhole, AtPoint, AtFraction, AtE, AtSign, AtExponent}
-use Rattle.grammar.specs.declared.kinds.Turn.{Turn}
 use Rattle.grammar.specs.declared.kinds.Turn.TheVariants.{Stop, To}
-use Rattle.grammar.proofs.Numbers.{digit_whole, digit_point, digit_fraction, digit_e, digit_sign, digit_exponent, positive_minus, e_zero, e_whole, e_fraction, sign_e, quiet, blank_quiet, quiet_stops}
+use Rattle.grammar.proofs.Numbers.{digit_whole, digit_point, digit_fraction, digit_e, digit_sign, digit_exponent, positive_minus, e_zero, e_whole, e_fraction, sign_e, blank_quiet, quiet_stops}
 use Rattle.grammar.specs.Grammar.{Ws, w_none, w_more, Seq, q_none, q_more, Chars, c_none, c_plain, c_long, c_escape, c_unit, c_unit_d, c_pair, Named, named, Shows, s_null, s_true, s_false, s_num, s_str, s_arr0, s_arr, s_obj0, s_obj, Padded, padded, ShowsItems, i_one, i_more, ShowsMembers, m_one, m_more}
-use Rattle.grammar.specs.Machine.{Frame, in_arr, in_obj, Stack, Role, value, name, St, val, first, members, member, colon, aft, nums, chars, esc, uni, uni_d, seq, lit, Next, bad, go, Out, stuck, step_val, step_first, step_members, step_member, step_colon, step_top, step_item, step_pair, end_nums, step_nums, finish_nums, step_chars, step_esc, step_uni, step_uni_d, step_seq, seq_go, end_string, step, run}
+use Rattle.grammar.specs.Machine.{in_arr, in_obj, Stack, Role, value, name, St, val, first, members, member, colon, aft, nums, chars, esc, uni, uni_d, seq, Next, bad, go, Out, stuck, step_val, step_first, step_members, step_member, step_colon, step_top, step_item, step_pair, end_nums, step_nums, finish_nums, step_chars, step_esc, step_uni, step_uni_d, step_seq, seq_go, step, run}
 
 abbrev pub turn : Next → ℕ → List ℕ → Out
 turn n b t = elim n [ bad ↦ stuck (b ∷ t) | go m ↦ run m t ]

@@ -1,12 +1,12 @@
 -- An object's text ends by itself: nothing that follows it changes what it is.
 -- Assumes nothing.
-use Rattle.std.proofs.Common.{◌≡◌, ℕ, suc, Bool, true, false, ◌⊎◌, List, [], ◌∷◌, ◌++◌, sym, refl, ap, ◌∙◌, subst, inl, inr, append_assoc, append-nil, arith}
+use Rattle.std.proofs.Common.{◌≡◌, ℕ, true, ◌⊎◌, List, [], ◌∷◌, ◌++◌, sym, refl, ap, ◌∙◌, inl, inr, append_assoc, append-nil, arith}
 use Rattle.std.proofs.lemmas.Bool.Decides.{nat_tests}
 use borrow.Author.Tests.{clash}
 use Rattle.grammar.specs.Ast.{Json, Members, obj}
 use Rattle.grammar.specs.Terminals.{is_blank, punct_of}
 use Rattle.grammar.specs.Grammar.{Shows, s_obj0, s_obj}
-use Rattle.grammar.specs.Machine.{Stack, val, members, aft, done, stuck, step_top, run}
+use Rattle.grammar.specs.Machine.{Stack, val, members, aft, done, step_top, run}
 use Rattle.grammar.specs.Laws.{ObjectsEnd}
 use Rattle.grammar.specs.declared.kinds.Punct.{Punct}
 use Rattle.grammar.specs.declared.kinds.Punct.TheVariants.{Space, One, Two, NoPunct}

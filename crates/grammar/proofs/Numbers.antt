@@ -1,10 +1,10 @@
 -- Numbers byte by byte: what has been read in each phase is a start of a number, and a number where it may end.
 -- Assumes nothing.
-use Rattle.std.proofs.Common.{◌≡◌, ℕ, Bool, true, false, cond, eqb, List, [], ◌∷◌, ◌++◌, sym, refl, ap, ◌∙◌, subst, append_assoc, append-nil, arith}
+use Rattle.std.proofs.Common.{◌≡◌, ℕ, Bool, true, false, cond, eqb, List, [], ◌∷◌, ◌++◌, sym, refl, subst, append_assoc, append-nil, arith}
 use borrow.Author.Tests.{clash}
 use Rattle.std.proofs.lemmas.Bool.Decides.{nat_tests}
 use Rattle.grammar.specs.Terminals.{is_blank, is_digit, is_positive}
-use Rattle.grammar.specs.Numbers.{is_e, is_sign, Digits, d_one, d_more, Positive, p_one, p_more, Whole, whole_zero, whole_pos, whole_minus_zero, whole_minus, Mantissa, no_fraction, fraction, Sign, no_sign, some_sign, Number, no_exponent, exponent, next_digit, next_e, next_point, next, may_end, At, a_minus, a_zero, a_minus_zero, a_whole, a_minus_whole, a_point, a_fraction, a_e, a_sign, a_exponent}
+use Rattle.grammar.specs.Numbers.{is_e, is_sign, Digits, d_one, d_more, p_one, p_more, Whole, whole_zero, whole_pos, whole_minus_zero, whole_minus, Mantissa, no_fraction, fraction, no_sign, some_sign, Number, no_exponent, exponent, next_digit, next_e, next_point, next, may_end, At, a_minus, a_zero, a_minus_zero, a_whole, a_minus_whole, a_point, a_fraction, a_e, a_sign, a_exponent}
 use Rattle.grammar.specs.declared.kinds.Phase.{Phase}
 use Rattle.grammar.specs.declared.kinds.Phase.TheVariants.{AtMinus, AtZero, AtWhole, AtPoint, AtFraction, AtE, AtSign, AtExponent}
 use Rattle.grammar.specs.declared.kinds.Turn.{Turn}

@@ -1,17 +1,16 @@
 -- What the automaton has read is a start of a text: each state has a meaning, each step keeps it, and each meaning can be completed.
 -- Assumes nothing.
-use Rattle.std.proofs.Common.{◌≡◌, ℕ, zero, suc, ◌+◌, Bool, true, false, cond, eqb, List, [], ◌∷◌, ◌++◌, sym, refl, ap, ◌∙◌, subst, append_assoc, append-nil, arith}
+use Rattle.std.proofs.Common.{◌≡◌, ℕ, zero, suc, Bool, true, false, eqb, List, [], ◌∷◌, ◌++◌, sym, refl, subst, append_assoc, append-nil, arith}
 use Rattle.std.proofs.lemmas.Bool.Decides.{nat_tests}
-use Rattle.grammar.specs.Ast.{Json, Items, Members, null, tru, fals, num, str, arr, obj, none, also, mnone, malso}
-use Rattle.grammar.specs.Terminals.{is_blank, is_digit, is_positive, within, start_of, punct_of, fits, char_of, behind, escape_of, first_of, second_of, pair_tail}
-use Rattle.grammar.specs.Numbers.{p_one, Number, next, may_end, At, a_minus, a_zero, a_whole}
+use Rattle.grammar.specs.Ast.{Json, Items, Members, none, also, mnone, malso}
+use Rattle.grammar.specs.Terminals.{is_blank, is_positive, within, start_of, punct_of, fits, char_of, behind, escape_of, first_of, second_of, pair_tail}
+use Rattle.grammar.specs.Numbers.{p_one, next, may_end, At, a_minus, a_zero, a_whole}
 use Rattle.grammar.specs.declared.kinds.Start.{Start}
 use Rattle.grammar.specs.declared.kinds.Start.TheVariants.{Blank, Quote, Minus, Zero, Positive, OpenArray, OpenObject, LitT, LitF, LitN, NoStart}
 use Rattle.grammar.specs.declared.kinds.Punct.{Punct}
 use Rattle.grammar.specs.declared.kinds.Punct.TheVariants.{Space, One, Two, NoPunct}
 use Rattle.grammar.specs.declared.kinds.Class.{Class}
 use Rattle.grammar.specs.declared.kinds.Class.TheVariants.{In, Hex, IsD, CtoF}
-use Rattle.grammar.specs.declared.kinds.Lead.{Lead}
 use Rattle.grammar.specs.declared.kinds.Char.{Char}
 use Rattle.grammar.specs.declared.kinds.Char.TheVariants.{Plain, EndQuote, Back, Long, NoChar}
 use Rattle.grammar.specs.declared.kinds.Escape.{Escape}
@@ -21,12 +20,11 @@ use Rattle.grammar.specs.declared.kinds.FirstHex.TheVariants.{FirstD, OtherHex, 
 use Rattle.grammar.specs.declared.kinds.SecondHex.{SecondHex}
 use Rattle.grammar.specs.declared.kinds.SecondHex.TheVariants.{Whole, High, NoSecond}
 use Rattle.grammar.specs.declared.kinds.Phase.{Phase}
-use Rattle.grammar.specs.declared.kinds.Phase.TheVariants.{AtMinus, AtZero, AtWhole, AtPoint, AtFraction, AtE, AtSign, AtExponent}
 use Rattle.grammar.specs.declared.kinds.Turn.{Turn}
 use Rattle.grammar.specs.declared.kinds.Turn.TheVariants.{Stop, To}
 use Rattle.grammar.proofs.Numbers.{eqb_is, Goes, goes_on, can_go, ends}
-use Rattle.grammar.specs.Grammar.{Ws, w_none, w_more, Seq, q_none, q_more, Chars, c_none, c_plain, c_long, c_escape, c_unit, c_unit_d, c_pair, Named, named, Shows, s_null, s_true, s_false, s_num, s_str, s_arr0, s_arr, s_obj0, s_obj, Padded, padded, ShowsItems, i_one, i_more, ShowsMembers, m_one, m_more, Viable}
-use Rattle.grammar.specs.Machine.{Frame, in_arr, in_obj, Stack, Role, value, name, St, val, first, members, member, colon, aft, nums, chars, esc, uni, uni_d, seq, lit, Next, bad, go, open_array, open_object, step_val, step_first, step_members, step_member, step_colon, step_top, step_item, step_pair, step_in, step_aft, end_nums, step_nums, step_chars, step_esc, step_uni, step_uni_d, step_seq, seq_go, end_string, lit_end, lit_next, step}
+use Rattle.grammar.specs.Grammar.{Ws, w_none, w_more, Seq, q_none, q_more, Chars, c_none, c_plain, c_long, c_escape, c_unit, c_unit_d, c_pair, Named, named, Shows, s_null, s_true, s_false, s_num, s_str, s_arr0, s_arr, s_obj0, s_obj, padded, ShowsItems, i_one, i_more, ShowsMembers, m_one, m_more, Viable}
+use Rattle.grammar.specs.Machine.{in_arr, in_obj, Stack, Role, value, name, St, val, first, members, member, colon, aft, nums, chars, esc, uni, uni_d, seq, lit, Next, bad, go, open_array, open_object, step_val, step_first, step_members, step_member, step_colon, step_top, step_item, step_pair, step_aft, end_nums, step_nums, step_chars, step_esc, step_uni, step_uni_d, step_seq, seq_go, end_string, lit_end, lit_next, step}
 
 mutual
   -- p ends where a value is to come

@@ -1,9 +1,9 @@
 -- The compact text is the text without the white space outside its strings.
 -- Assumes nothing.
-use Rattle.std.proofs.Common.{◌≡◌, ℕ, ◌+◌, ◌≤◌, Bool, true, false, cond, eqb, leb, List, [], ◌∷◌, ◌++◌, sym, refl, ap, ◌∙◌, subst, append_assoc, append-nil, arith}
+use Rattle.std.proofs.Common.{◌≡◌, ℕ, ◌≤◌, true, false, cond, eqb, List, [], ◌∷◌, ◌++◌, sym, refl, ap, ◌∙◌, subst, append_assoc, append-nil, arith}
 use Rattle.std.proofs.lemmas.Bool.Decides.{nat_tests}
-use Rattle.grammar.specs.Ast.{Json, Items, Members, none, also, mnone, malso}
-use Rattle.grammar.specs.Terminals.{within, is_blank, is_digit, is_positive, is_hex, is_d, char_of, behind, escape_of, first_of, second_of, fits, pair_tail}
+use Rattle.grammar.specs.Ast.{Json, Items, Members, also, mnone, malso}
+use Rattle.grammar.specs.Terminals.{within, is_blank, is_digit, is_positive, is_hex, is_d, char_of, behind, first_of, second_of, fits, pair_tail}
 use Rattle.grammar.specs.Numbers.{is_e, is_sign, Digits, d_one, d_more, Positive, p_one, p_more, Whole, whole_zero, whole_pos, whole_minus_zero, whole_minus, Mantissa, no_fraction, fraction, Sign, no_sign, some_sign, Number, no_exponent, exponent}
 use Rattle.grammar.specs.Grammar.{Ws, w_none, w_more, Seq, q_none, q_more, Chars, c_none, c_plain, c_long, c_escape, c_unit, c_unit_d, c_pair, Named, named, Shows, s_null, s_true, s_false, s_num, s_str, s_arr0, s_arr, s_obj0, s_obj, Padded, padded, ShowsItems, i_one, i_more, ShowsMembers, m_one, m_more}
 use Rattle.grammar.specs.Compact.{print, print_items, print_members, moved, dropped, squeezed}
@@ -13,7 +13,6 @@ use Rattle.grammar.specs.declared.kinds.Class.TheVariants.{In, Hex, IsD, CtoF}
 use Rattle.grammar.specs.declared.kinds.Lead.{Lead}
 use Rattle.grammar.specs.declared.kinds.Lead.TheVariants as lead
 use Rattle.grammar.specs.declared.kinds.Char.TheVariants.{Plain, Long}
-use Rattle.grammar.specs.declared.kinds.Escape.TheVariants.{Simple}
 use Rattle.grammar.specs.declared.kinds.FirstHex.TheVariants.{FirstD, OtherHex}
 use Rattle.grammar.specs.declared.kinds.SecondHex.TheVariants as second
 use Rattle.grammar.specs.declared.kinds.Place.{Place}

@@ -1,12 +1,12 @@
 -- Permitted texts are UTF-8: each token is, and two texts in a row are one.
 -- Assumes nothing.
-use Rattle.std.proofs.Common.{◌≡◌, ℕ, ◌+◌, ◌≤◌, Bool, true, false, cond, ◌&&◌, eqb, leb, ◌⊎◌, List, [], ◌∷◌, ◌++◌, sym, refl, ap, ◌∙◌, subst, inl, inr, append_assoc, append-nil, arith, leb-false, leb-true}
+use Rattle.std.proofs.Common.{◌≡◌, ℕ, ◌+◌, ◌≤◌, Bool, true, false, cond, ◌&&◌, leb, List, [], ◌∷◌, ◌++◌, sym, refl, ap, ◌∙◌, inl, inr, arith, leb-false, leb-true}
 use Rattle.std.proofs.lemmas.Bool.Decides.{nat_tests}
 use Rattle.text.specs.Utf8.{Range, range, inside, of_row, is_text}
 use Rattle.text.proofs.Texts.{both, and, is_inside, inside_low, text_append, text_plain}
 use Rattle.text.proofs.Tables.{row_text_lem}
 use Rattle.grammar.specs.Ast.{Json, Items, Members}
-use Rattle.grammar.specs.Terminals.{within, is_blank, is_digit, is_positive, is_hex, is_d, char_of, behind, escape_of, first_of, second_of, fits, pair_tail}
+use Rattle.grammar.specs.Terminals.{is_blank, is_digit, is_positive, is_hex, is_d, char_of, behind, escape_of, first_of, second_of, fits}
 use Rattle.grammar.specs.Numbers.{is_e, is_sign, Digits, d_one, d_more, Positive, p_one, p_more, Whole, whole_zero, whole_pos, whole_minus_zero, whole_minus, Mantissa, no_fraction, fraction, Sign, no_sign, some_sign, Number, no_exponent, exponent}
 use Rattle.grammar.specs.Grammar.{Ws, w_none, w_more, Seq, q_none, q_more, Chars, c_none, c_plain, c_long, c_escape, c_unit, c_unit_d, c_pair, Named, named, Shows, s_null, s_true, s_false, s_num, s_str, s_arr0, s_arr, s_obj0, s_obj, Padded, padded, ShowsItems, i_one, i_more, ShowsMembers, m_one, m_more}
 use Rattle.grammar.specs.Laws.{TextsAreUtf8}

@@ -1,6 +1,6 @@
 -- The compact text: the tokens as written, with no white space between them.
 -- Assumes nothing.
-use Rattle.std.specs.Prelude.{ℕ, Bool, true, false, cond, List, [], ◌∷◌, ◌++◌, ◌==◌}
+use Rattle.std.specs.Prelude.{ℕ, Bool, false, cond, List, [], ◌∷◌, ◌++◌, ◌==◌}
 use Rattle.grammar.specs.Ast.{Json, Items, Members, null, tru, fals, num, str, arr, obj, none, also, mnone, malso}
 use Rattle.grammar.specs.Terminals.{is_blank}
 use Rattle.grammar.specs.declared.kinds.Place.{Place}

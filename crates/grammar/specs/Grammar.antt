@@ -1,6 +1,6 @@
 -- JSON as RFC 8259 has it, with nesting counted: `Shows d j t` says that the bytes t are a writing of j, nested at most d deep. Everything is defined by one more at its right end.
 -- Assumes nothing.
-use Rattle.std.specs.Prelude.{◌≡◌, ℕ, suc, true, false, List, [], ◌∷◌, ◌++◌}
+use Rattle.std.specs.Prelude.{◌≡◌, ℕ, suc, true, List, [], ◌∷◌, ◌++◌}
 use Rattle.grammar.specs.Ast.{Json, Items, Members, null, tru, fals, num, str, arr, obj, none, also, mnone, malso}
 use Rattle.grammar.specs.Terminals.{is_blank, fits, char_of, behind, escape_of, first_of, second_of, pair_tail}
 use Rattle.grammar.specs.Numbers.{Number}

@@ -1,6 +1,6 @@
 -- A pushdown automaton that reads JSON byte by byte, and stops before the first byte that no text continues with.
 -- Assumes nothing.
-use Rattle.std.specs.Prelude.{◌≡◌, ℕ, zero, suc, Bool, true, false, cond, List, [], ◌∷◌, ◌++◌, ◌==◌}
+use Rattle.std.specs.Prelude.{ℕ, zero, suc, Bool, true, false, List, [], ◌∷◌, ◌++◌, ◌==◌}
 use Rattle.grammar.specs.Ast.{Json, Items, Members, null, tru, fals, num, str, arr, obj, none, also, mnone, malso}
 use Rattle.grammar.specs.Terminals.{start_of, punct_of, fits, char_of, behind, escape_of, first_of, second_of, pair_tail}
 use Rattle.grammar.specs.Numbers.{next, may_end}
@@ -10,7 +10,6 @@ use Rattle.grammar.specs.declared.kinds.Punct.{Punct}
 use Rattle.grammar.specs.declared.kinds.Punct.TheVariants.{Space, One, Two, NoPunct}
 use Rattle.grammar.specs.declared.kinds.Class.{Class}
 use Rattle.grammar.specs.declared.kinds.Class.TheVariants.{Hex}
-use Rattle.grammar.specs.declared.kinds.Lead.{Lead}
 use Rattle.grammar.specs.declared.kinds.Char.{Char}
 use Rattle.grammar.specs.declared.kinds.Char.TheVariants.{Plain, EndQuote, Back, Long, NoChar}
 use Rattle.grammar.specs.declared.kinds.Escape.{Escape}

@@ -3,20 +3,19 @@
 use Rattle.std.proofs.Common.{◌≡◌, ℕ, suc, ◌+◌, ◌-◌, ◌<◌, ◌≤◌, Bool, true, false, cond, List, [], ◌∷◌, ◌++◌, length, get_or, take, drop, Some, None, Option, sym, refl, ap, ◌∙◌, subst, append_assoc, arith, length-append, length-drop, take_at}
 use Rattle.std.specs.List.{between}
 use Rattle.std.proofs.lemmas.List.{drop_more, drop_all}
-use Rattle.std.proofs.lemmas.Bool.Decides.{nat_tests}
 use Rattle.text.specs.Bytes.{same}
 use Rattle.grammar.specs.Ast.{Json, Members, obj, mnone, malso}
 use Rattle.grammar.specs.Grammar.{Ws, w_none as nothing, w_more, Shows, s_obj0, s_obj, Padded, padded}
-use Rattle.grammar.specs.Machine.{val, members, open_object, step_val, run}
-use Rattle.grammar.specs.Terminals.{is_blank, start_of}
+use Rattle.grammar.specs.Machine.{val, members, step_val}
+use Rattle.grammar.specs.Terminals.{start_of}
 use Rattle.grammar.proofs.Complete.{ws_val}
 use Rattle.grammar.proofs.Fronts.{objects_end}
-use Rattle.json.specs.Reading.{Part, Refuses, NoBlank, AnyValue, AnyObject, GotValue, GotName, GotObject, ReadyPair}
-use Rattle.json.proofs.Parts.{skip, go_at, blank_not}
-use Rattle.json.proofs.Objects.{AtName, AtPair, PastPair, o_none, o_begin, o_name, o_pair, o_close, o_next}
+use Rattle.documents.specs.Reading.{Part, Refuses, NoBlank, AnyValue, AnyObject, GotValue, GotName, ReadyPair}
+use Rattle.documents.proofs.Parts.{skip, go_at}
+use Rattle.documents.proofs.Objects.{AtName, PastPair, o_none, o_begin, o_name, o_pair, o_close, o_next}
 use Rattle.names.specs.Undone.{undone}
 use Rattle.names.specs.declared.undone.Undoing.TheVariants.{Plain}
-use Rattle.members.specs.LookUp.{is_name, or_else, first_named, kept, FoundAt, Seen, Looked, bare, LookedUp}
+use Rattle.members.specs.LookUp.{is_name, or_else, kept, Seen, Looked, bare, LookedUp}
 use Rattle.members.specs.Laws.{LookUpsTell}
 use Rattle.members.specs.declared.cursor.Cursor.{Cursor}
 use Rattle.members.specs.declared.walk.ValuePlace.{ValuePlace}

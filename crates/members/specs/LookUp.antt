@@ -1,14 +1,14 @@
 -- A member of an object looked up by its name: the first one whose name, its escapes undone, is the text.
 -- Assumes nothing.
-use Rattle.std.specs.Prelude.{◌≡◌, ℕ, suc, ◌+◌, ◌<◌, Bool, true, false, cond, List, [], ◌∷◌, length, drop, Some, None, Option, nat_le}
+use Rattle.std.specs.Prelude.{◌≡◌, ℕ, suc, ◌+◌, ◌<◌, Bool, true, cond, List, [], ◌∷◌, length, drop, Some, None, Option, nat_le}
 use Rattle.std.specs.List.{between}
 use Rattle.text.specs.Bytes.{same}
 use Rattle.grammar.specs.Ast.{Json, Members, obj, mnone, malso}
 use Rattle.grammar.specs.Grammar.{Shows}
 use Rattle.grammar.specs.Terminals.{is_blank}
-use Rattle.json.specs.Reading.{Part, Refuses, AnyValue, ReadyPair}
-use Rattle.json.specs.declared.fault.DocumentFault.{DocumentFault}
-use Rattle.json.specs.declared.fault.DocumentFault.TheVariants.{Syntax, Form, Deep}
+use Rattle.documents.specs.Reading.{Part, Refuses, AnyValue, ReadyPair}
+use Rattle.documents.specs.declared.fault.DocumentFault.{DocumentFault}
+use Rattle.documents.specs.declared.fault.DocumentFault.TheVariants.{Syntax, Form, Deep}
 use Rattle.names.specs.Undone.{undone}
 use Rattle.names.specs.declared.undone.Undoing.TheVariants.{Plain}
 use Rattle.members.specs.declared.cursor.Cursor.{Cursor}

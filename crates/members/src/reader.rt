@@ -5,7 +5,7 @@ ghost use Rattle.members.specs.declared.cursor.Cursor.{Cursor};
 
 use crate::cursor::{Cursor, Restore};
 use crate::walk::{ValuePlace, walk};
-use json::{DocumentFault, blanks};
+use documents::{DocumentFault, blanks};
 
 // The document, and how far it is read.
 #[derive(Drop)]

@@ -1,14 +1,14 @@
 // The members of an object, one by one.
 ghost use Rattle.std.specs.Prelude.{◌≡◌, ◌≤◌, length, MatchResult};
 ghost use Rattle.std.specs.List.{between};
-ghost use Rattle.json.specs.Reading.{Refuses, AnyObject};
+ghost use Rattle.documents.specs.Reading.{Refuses, AnyObject};
 ghost use Rattle.names.specs.Undone.{undone};
 ghost use Rattle.names.specs.declared.undone.Undoing.TheVariants.{Plain};
 ghost use Rattle.text.specs.Bytes.{same};
 ghost use Rattle.members.specs.LookUp.{kept, Looked};
 
 use crate::cursor::Cursor;
-use json::{blanks, name, value};
+use documents::{blanks, name, value};
 use names::name_is;
 
 // Where a value begins, and where it ends.

@@ -1,11 +1,11 @@
 -- What is left of a name against what is left of a text.
 -- Assumes nothing.
-use Rattle.std.proofs.Common.{◌≡◌, ℕ, suc, ◌+◌, ◌<◌, ◌≤◌, Bool, true, false, cond, eqb, ltb, List, [], ◌∷◌, ◌++◌, length, get_or, drop, Some, None, Option, sym, refl, ap, ◌∙◌, subst, append_assoc, append-nil, arith, ltb-false, ltb-true}
+use Rattle.std.proofs.Common.{◌≡◌, ℕ, ◌+◌, ◌<◌, ◌≤◌, Bool, true, false, cond, eqb, ltb, List, [], ◌∷◌, ◌++◌, length, get_or, drop, Some, None, Option, sym, refl, ap, ◌∙◌, subst, arith, ltb-false, ltb-true}
 use Rattle.std.proofs.lemmas.List.{drop_more, drop_all}
 use Rattle.std.proofs.lemmas.Bool.Decides.{nat_tests}
 use Rattle.text.specs.Bytes.{same, stripped}
 use Rattle.text.proofs.Order.{same-under, same_apart}
-use Rattle.names.specs.Undone.{bytes_of, given, after, undone, past_byte, past_all}
+use Rattle.names.specs.Undone.{bytes_of, given, after, undone, past_all}
 use Rattle.names.specs.declared.undone.Undoing.{Undoing}
 use Rattle.names.specs.declared.undone.Given.{Given}
 

@@ -1,6 +1,6 @@
 -- A string as it is written between its quotes, with its escapes undone: `\` and a letter stand for one character, `\u` and four digits for the character of that number, and a pair of surrogates for one character.
 -- Assumes nothing.
-use Rattle.std.specs.Prelude.{ℕ, ◌+◌, ◌-◌, ◌*◌, ◌/◌, ◌%◌, Bool, true, false, cond, List, [], ◌∷◌, ◌++◌, length, Some, None, Option, ◌==◌, nat_le, nat_lt, slice_index}
+use Rattle.std.specs.Prelude.{ℕ, ◌+◌, ◌-◌, ◌*◌, ◌/◌, ◌%◌, Bool, false, cond, List, [], ◌∷◌, ◌++◌, length, Some, None, Option, ◌==◌, nat_le, nat_lt, slice_index}
 use Rattle.names.specs.declared.undone.Undoing.{Undoing}
 use Rattle.names.specs.declared.undone.Undoing.TheVariants.{Plain, Back, Digits, High, HighBack, LowDigits}
 use Rattle.names.specs.declared.undone.Given.{Given}
