@@ -1,4 +1,3 @@
-pub mod Entries
 pub mod Turns
 mod Orders
 mod Lists

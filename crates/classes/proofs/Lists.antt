@@ -1,5 +1,5 @@
 -- What goes to the class list, and what is passed over. Assumes nothing.
-use Rattle.std.proofs.Common.{◌≡◌, ℕ, ◌+◌, ◌-◌, ◌<◌, ◌≤◌, Bool, true, false, cond, ◌⊎◌, List, [], ◌∷◌, ◌++◌, map, length, get_or, drop, Some, None, Ok, Err, Option, Result, sym, refl, ap, ◌∙◌, subst, inl, inr, append_assoc, append-nil, arith, length-append}
+use Rattle.std.proofs.Common.{◌≡◌, ℕ, ◌+◌, Bool, true, false, cond, ◌⊎◌, List, [], ◌∷◌, ◌++◌, map, length, Some, None, Ok, Err, Option, Result, sym, refl, ap, ◌∙◌, subst, inl, inr, arith, length-append}
 use Rattle.std.specs.List.Sorted.{IsPermutation}
 use Rattle.std.specs.List.{AllByRecursion as All}
 use Rattle.std.proofs.ByRecursion.{All-weaker, all_shuffled}
@@ -7,8 +7,8 @@ use Rattle.std.proofs.lemmas.List.{length-map}
 use Rattle.std.proofs.lemmas.List.Sorted.{IsPermutation-sym, length_permutation}
 use Rattle.text.specs.Bytes.{Bytes}
 use Rattle.text.specs.Utf8.{In}
-use Rattle.paths.specs.Paths.{Path, same_path}
-use Rattle.paths.proofs.PathOrder.{same_path_eq}
+use Rattle.paths.specs.Paths.{Path}
+use Rattle.paths.specs.TotalOrders.{same_path_eq}
 use Rattle.classes.specs.declared.listing.Node.{Node}
 use Rattle.classes.specs.declared.listing.Passed.{Passed}
 use Rattle.classes.specs.declared.listing.Reason.{Reason}

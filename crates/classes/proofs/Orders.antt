@@ -1,88 +1,24 @@
--- The order of nodes and that of what is passed over are total, and what a sort by them leaves. Assumes nothing.
-use Rattle.std.proofs.Common.{◌≡◌, ℕ, zero, suc, ◌+◌, ◌-◌, ◌<◌, ◌≤◌, Bool, true, false, cond, ◌⊎◌, List, [], ◌∷◌, ◌++◌, map, length, get_or, Some, None, vec_items, Option, Ordering, Less, Equal, Greater, sym, refl, ap, ◌∙◌, subst, inl, inr, add-one, arith}
+-- What a sort by path order leaves, and one by the bytes of the paths. Assumes nothing.
+use Rattle.std.proofs.Common.{◌≡◌, ℕ, ◌+◌, ◌<◌, Bool, true, false, cond, ◌⊎◌, List, [], ◌∷◌, map, length, get_or, Some, None, vec_items, Option, sym, refl, ◌∙◌, subst, inl, inr, add-one, arith}
 use borrow.Author.Tests.{clash}
-use Rattle.std.specs.Cmp.{IsTotalOrder, strict}
-use Rattle.std.specs.Ordering.{is_lt, is_eq, MatchOrdering}
-use Rattle.std.specs.List.Sorted.{IsSortedWithin}
-use Rattle.text.specs.Bytes.{Bytes, same, before, ordering, byte_order}
+use Rattle.std.specs.Ordering.{is_lt}
+use Rattle.text.specs.Bytes.{Bytes, same, before, byte_order}
 use Rattle.text.proofs.Order.{same_refl, same_eq, before-alone, before_trans, before_either}
+use Rattle.text.proofs.TotalOrders.{not_before, unlike}
 use Rattle.paths.specs.Paths.{Path, same_path, path_before, path_order}
 use Rattle.paths.specs.Values.{names_of}
-use Rattle.paths.proofs.PathOrder.{path_alone, path_chain, path_either, same_path_refl, same_path_eq}
+use Rattle.paths.specs.TotalOrders.{path_alone, path_chain, path_either, same_path_refl, same_path_eq}
 use Rattle.classes.specs.declared.listing.Node.{Node}
 use Rattle.classes.specs.declared.listing.Passed.{Passed}
 use Rattle.classes.specs.Classes.{Entry, entry, told, kept_after, StrictAfter, ByBytes}
 
--- ---- an order by two tests, of which one is of equality
-
-module _ {K : Type 0} (alike before : K → K → Bool)
-    (itself : (x : K) → alike x x ≡ true) (equal : (x y : K) → alike x y ≡ true → x ≡ y) (alone : (x : K) → before x x ≡ false)
-    (chain : (x y z : K) → before x y ≡ true → before y z ≡ true → before x z ≡ true)
-    (either : (x y : K) → (before x y ≡ true) ⊎ ((x ≡ y) ⊎ (before y x ≡ true))) where
-  abbrev pub First : K → K → Type 0
-  First x y = before x y ≡ true
-
-  pub not_first : (x : K) → First x x → ⊥
-  not_first x h = clash (sym (alone x) ∙ h)
-
-  pub unlike : (x y : K) → alike x y ≡ false → x ≡ y → ⊥
-  unlike x y h e = clash (sym h ∙ subst (λ z. alike x z ≡ true) e (itself x))
-
-  -- of two that are not the same, one comes first
-  pub other_first : (x y : K) → alike x y ≡ false → before x y ≡ false → before y x ≡ true
-  other_first x y e f = by (either x y)
-    where
-      by : (before x y ≡ true) ⊎ ((x ≡ y) ⊎ (before y x ≡ true)) → before y x ≡ true
-      by (inl h) = absurd (clash (sym f ∙ h))
-      by (inr (inl h)) = absurd (unlike x y e h)
-      by (inr (inr h)) = h
-
-  pub ranks : (x y : K) → MatchOrdering (ordering (alike x y) (before x y)) (First x y) (x ≡ y) (First y x)
-  ranks x y = by (alike x y) (before x y) refl refl
-    where
-      by : (a b : Bool) → alike x y ≡ a → before x y ≡ b → MatchOrdering (ordering a b) (First x y) (x ≡ y) (First y x)
-      by true b e f = equal x y e
-      by false true e f = f
-      by false false e f = other_first x y e f
-
-  abbrev pub total : IsTotalOrder (λ (x y : K) (r : Ordering). MatchOrdering r (First x y) (x ≡ y) (First y x))
-  total = strict First not_first chain (λ x y. ordering (alike x y) (before x y)) ranks
-
-  -- the same on values that have such a key
-  abbrev pub keyed : {X : Type 0} (key : X → K) → IsTotalOrder (λ (a b : X) (r : Ordering). r ≡ ordering (alike (key a) (key b)) (before (key a) (key b)))
-  keyed key = record {
-    cmp = λ a b. ordering (alike (key a) (key b)) (before (key a) (key b));
-    says = λ a b r h. h;
-    flip = λ a b. total.antisymm (key a) (key b);
-    trans = λ a b c. total.trans (key a) (key b) (key c);
-    alike = λ a b c. total.congr (key a) (key b) (key c);
-  }
-
-  pub not_before : (x y : K) → is_lt (ordering (alike x y) (before x y)) ≡ false → before x y ≡ false
-  not_before x y h = by (alike x y) (before x y) refl refl h
-    where
-      by : (a b : Bool) → alike x y ≡ a → before x y ≡ b → is_lt (ordering a b) ≡ false → b ≡ false
-      by true false e f g = refl
-      by true true e f g = absurd (not_first x (subst (λ z. First x z) (sym (equal x y e)) f))
-      by false false e f g = refl
-      by false true e f g = g
-
-pub equal_is_same : (a b : Bool) → is_eq (ordering a b) ≡ a
-equal_is_same true b = refl
-equal_is_same false true = refl
-equal_is_same false false = refl
+-- ---- the keys of the two orders
 
 abbrev pub key : Node → Path
 key n = names_of n.path
 
-abbrev pub by_path : IsTotalOrder (λ (a b : Node) (r : Ordering). r ≡ path_order (key a) (key b))
-by_path = keyed same_path path_before same_path_refl same_path_eq path_alone path_chain path_either key
-
 abbrev pub name : Passed → Bytes
 name p = vec_items p.path
-
-abbrev pub by_bytes : IsTotalOrder (λ (a b : Passed) (r : Ordering). r ≡ byte_order (name a) (name b))
-by_bytes = keyed same before same_refl same_eq before-alone before_trans before_either name
 
 not_before_path : (p q : Path) → is_lt (path_order p q) ≡ false → path_before p q ≡ false
 not_before_path = not_before same_path path_before same_path_refl same_path_eq path_alone path_chain path_either

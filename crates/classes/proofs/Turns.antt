@@ -1,5 +1,5 @@
 -- One turn of each loop that makes the class list. Assumes nothing.
-use Rattle.std.proofs.Common.{◌≡◌, ℕ, suc, ◌+◌, ◌-◌, ◌<◌, ◌≤◌, Bool, true, false, cond, ◌&&◌, ◌||◌, eqb, List, [], ◌∷◌, ◌++◌, map, length, get_or, drop, Some, None, Ok, Err, vec_items, Option, Result, sym, refl, ap, ◌∙◌, subst, append_assoc, append-nil, arith, eq-eqb, ne_eqb}
+use Rattle.std.proofs.Common.{◌≡◌, ℕ, suc, ◌+◌, ◌-◌, ◌<◌, ◌≤◌, true, false, cond, ◌&&◌, ◌||◌, eqb, List, [], ◌∷◌, ◌++◌, map, length, get_or, drop, Some, None, Option, sym, refl, ap, ◌∙◌, append_assoc, append-nil, arith, eq-eqb, ne_eqb}
 use Rattle.std.proofs.lemmas.List.{drop_more, drop_all}
 use Rattle.text.specs.Bytes.{Bytes}
 use Rattle.paths.specs.Names.{reserved}
@@ -8,8 +8,7 @@ use Rattle.paths.specs.Values.{names_of}
 use Rattle.classes.specs.declared.found.Found.{Found}
 use Rattle.classes.specs.declared.listing.Node.{Node}
 use Rattle.classes.specs.declared.listing.Passed.{Passed}
-use Rattle.classes.specs.declared.listing.Reason.{Reason}
-use Rattle.classes.specs.Classes.{Look, Entry, Told, look, entry, told, answer, verdict, has_reserved, last_path, is_last, ok_part, err_part, granted_of, passed_of, kept_after, repeats_after, kept, repeats, repeated}
+use Rattle.classes.specs.Classes.{Entry, look, entry, told, has_reserved, last_path, is_last, granted_of, passed_of, kept_after, repeats_after, kept, repeats, repeated}
 
 -- ---- reserved names
 
@@ -65,9 +64,6 @@ ahead f xs i x h e = ap (map f) (drop_more xs i x h) ∙ ap (λ y. f y ∷ map f
 pub grown : {Y : Type 0} (made new part rest left all : List Y) → new ≡ made ++ part → left ≡ part ++ rest → made ++ left ≡ all → new ++ rest ≡ all
 grown made new part rest left all e f h = ap (λ l. l ++ rest) e ∙ append_assoc made part rest ∙ ap (λ l. made ++ l) (sym f) ∙ h
 
-pub ended : {X Y Z : Type 0} (F : List Y → List Z) (f : X → Y) (made all : List Z) (xs : List X) (i : ℕ) → F [] ≡ [] → length xs ≤ i → made ++ F (map f (drop i xs)) ≡ all → made ≡ all
-ended F f made all xs i none h e = sym (append-nil made) ∙ ap (λ l. made ++ l) (sym (ap (λ l. F (map f l)) (drop_all i xs h) ∙ none)) ∙ e
-
 -- ---- sifting
 
 -- what the loop has, with what is still to come
@@ -76,27 +72,6 @@ SiftNodes nodes found i = map entry nodes ++ granted_of (map look (drop i found)
 
 abbrev pub SiftPassed : List Passed → List Found → ℕ → Type 0
 SiftPassed passed found i = map told passed ++ passed_of (map look (drop i found)) ≡ passed_of (map look found)
-
-module _ (found : List Found) (i : ℕ) (x : Found) (h : i < length found) (is : x ≡ get_or found i x) where
-  abbrev rest : List Look
-  rest = map look (drop (i + 1) found)
-
-  pub sift_ok : (nodes new : List Node) (passed : List Passed) (n : Node) → verdict (look x) ≡ Ok (entry n) → new ≡ nodes ++ n ∷ [] → SiftNodes nodes found i → SiftPassed passed found i → SiftNodes new found (i + 1) × SiftPassed passed found (i + 1)
-  sift_ok nodes new passed n v e a b = (
-    grown (map entry nodes) (map entry new) (entry n ∷ []) (granted_of rest) (granted_of (map look (drop i found))) _
-        (ap (map entry) e ∙ map-append entry nodes (n ∷ [])) (ap granted_of (ahead look found i x h is) ∙ ap (λ r. ok_part r ++ granted_of rest) v) a,
-    grown (map told passed) (map told passed) [] (passed_of rest) (passed_of (map look (drop i found))) _
-        (sym (append-nil (map told passed))) (ap passed_of (ahead look found i x h is) ∙ ap (λ r. err_part (look x).path r ++ passed_of rest) v) b,
-  )
-
-  pub sift_err : (nodes : List Node) (passed new : List Passed) (p : Passed) → verdict (look x) ≡ Err p.reason → vec_items p.path ≡ vec_items x.path → new ≡ passed ++ p ∷ [] → SiftNodes nodes found i → SiftPassed passed found i → SiftNodes nodes found (i + 1) × SiftPassed new found (i + 1)
-  sift_err nodes passed new p v same e a b = (
-    grown (map entry nodes) (map entry nodes) [] (granted_of rest) (granted_of (map look (drop i found))) _
-        (sym (append-nil (map entry nodes))) (ap granted_of (ahead look found i x h is) ∙ ap (λ r. ok_part r ++ granted_of rest) v) a,
-    grown (map told passed) (map told new) (told p ∷ []) (passed_of rest) (passed_of (map look (drop i found))) _
-        (ap (map told) e ∙ map-append told passed (p ∷ []))
-        (ap passed_of (ahead look found i x h is) ∙ ap (λ r. err_part (look x).path r ++ passed_of rest) v ∙ ap (λ (t : Bytes). record { path = t; reason = p.reason } ∷ passed_of rest) (sym same)) b,
-  )
 
 -- ---- settling
 

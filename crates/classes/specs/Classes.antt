@@ -1,15 +1,13 @@
 -- What was found in an archive's folders, which of it is a node, and the class list of that. Assumes nothing.
-use Rattle.std.specs.Prelude.{◌≡◌, ℕ, ◌+◌, Bool, true, false, cond, not, ◌&&◌, ◌||◌, ◌⊎◌, List, [], ◌∷◌, ◌++◌, map, length, Some, None, Ok, Err, vec_items, Option, Result, ◌==◌}
+use Rattle.std.specs.Prelude.{◌≡◌, ◌+◌, Bool, true, false, cond, not, ◌&&◌, ◌||◌, ◌⊎◌, List, [], ◌∷◌, ◌++◌, length, Some, None, Ok, Err, vec_items, Option, Result, ◌==◌}
 use Rattle.text.specs.Bytes.{Bytes, before}
 use Rattle.text.specs.Utf8.{In}
 use Rattle.paths.specs.declared.PathFault.{PathFault}
-use Rattle.paths.specs.declared.NodePath.{NodePath}
 use Rattle.paths.specs.Names.{reserved}
 use Rattle.paths.specs.Paths.{Path, rendered, path_of, is_path_text, same_path, path_before}
 use Rattle.paths.specs.Values.{names_of}
 use Rattle.classes.specs.declared.found.Found.{Found}
 use Rattle.classes.specs.declared.found.Kind.{Kind}
-use Rattle.classes.specs.declared.found.Marks.{Marks}
 use Rattle.classes.specs.declared.found.Sight.{Sight}
 use Rattle.classes.specs.declared.found.Sight.TheVariants.{Folder, Link, Unnamed}
 use Rattle.classes.specs.declared.listing.Node.{Node}

@@ -1,5 +1,5 @@
 -- What marks a node, and the path of a folder's entry. Assumes nothing.
-use Rattle.std.specs.Prelude.{ℕ, cond, List, [], ◌∷◌, ◌++◌, Some, None, codes, Option}
+use Rattle.std.specs.Prelude.{ℕ, cond, List, ◌∷◌, ◌++◌, Some, None, codes, Option}
 use Rattle.std.specs.Str.{bytes_eq}
 use Rattle.classes.specs.declared.found.Marks.{Marks}
 use Rattle.classes.specs.declared.found.Kind.{Kind}

@@ -6,10 +6,9 @@ ghost use Rattle.paths.specs.Paths.{path_order, same_path};
 ghost use Rattle.paths.specs.Values.{names_of};
 ghost use Rattle.classes.specs.declared.listing.Reason.TheVariants.{Refused};
 ghost use Rattle.classes.specs.Classes.{entry, told, look, answer, judged, seen, has_reserved, allowed, granted_of, passed_of, last_path, is_last, kept, repeats, repeated, Listed};
-ghost use Rattle.std.specs.Cmp.Rules.{comparing};
-ghost use Rattle.std.proofs.Common.{rules};
-ghost use Rattle.std.specs.Cmp as Keys;
-ghost use Rattle.std.specs.Cmp.{partial_order_from_agreeing_total};
+ghost use Rattle.std.specs.Cmp.{on_equiv, on_total, partial_equiv_from_equiv, partial_order_from_agreeing_total};
+ghost use Rattle.text.proofs.TotalOrders.{byte_order_total, same_equivalence, same_ties};
+ghost use Rattle.paths.specs.TotalOrders.{path_order_total, same_path_equivalence, same_path_ties};
 
 use crate::found::{Found, Kind, Sight};
 use paths::{NodePath, PathFault};
@@ -60,7 +59,7 @@ pub struct ClassList {
 impl PartialEq for Node {
     ghost eq = { λ a b. same_path (names_of a.path) (names_of b.path) };
 
-    ghost laws = { Keys.partial_equiv_from_equiv (Prim.search (comparing, rules)) };
+    ghost laws = { partial_equiv_from_equiv (on_equiv (λ n. names_of n.path) same_path_equivalence) };
 
     fn eq(&self, other: &Node) -> bool {
         self.cmp(other).is_eq()
@@ -68,13 +67,13 @@ impl PartialEq for Node {
 }
 
 impl Eq for Node {
-    ghost laws = { Prim.search (comparing, rules) };
+    ghost laws = { on_equiv (λ n. names_of n.path) same_path_equivalence };
 }
 
 impl PartialOrd for Node {
     ghost partial_cmp = { λ a b. Some (path_order (names_of a.path) (names_of b.path)) };
 
-    ghost laws = { partial_order_from_agreeing_total (λ a b. path_order (names_of a.path) (names_of b.path)) (Prim.search (comparing, rules)) (λ _ _. refl) (Prim.search (comparing, rules)) };
+    ghost laws = { partial_order_from_agreeing_total (λ a b. path_order (names_of a.path) (names_of b.path)) (on_total (λ n. names_of n.path) path_order_total) (λ _ _. refl) (λ a b. same_path_ties (names_of a.path) (names_of b.path)) };
 
     fn partial_cmp(&self, other: &Node) -> Option<Ordering> {
         Some(self.cmp(other))
@@ -85,11 +84,11 @@ impl PartialOrd for Node {
 impl Ord for Node {
     ghost cmp = { λ a b. path_order (names_of a.path) (names_of b.path) };
 
-    ghost total = { Prim.search (comparing, rules) };
+    ghost total = { on_total (λ n. names_of n.path) path_order_total };
 
-    ghost matches_partial_cmp = { Prim.search (comparing, rules) };
+    ghost matches_partial_cmp = { λ _ _. refl };
 
-    ghost matches_eq = { Prim.search (comparing, rules) };
+    ghost matches_eq = { λ a b. same_path_ties (names_of a.path) (names_of b.path) };
 
     fn cmp(&self, other: &Node) -> Ordering {
         self.path.compare(&other.path)
@@ -99,7 +98,7 @@ impl Ord for Node {
 impl PartialEq for Passed {
     ghost eq = { λ a b. same a.path.items b.path.items };
 
-    ghost laws = { Keys.partial_equiv_from_equiv (Prim.search (comparing, rules)) };
+    ghost laws = { partial_equiv_from_equiv (on_equiv (λ p. p.path.items) same_equivalence) };
 
     fn eq(&self, other: &Passed) -> bool {
         self.cmp(other).is_eq()
@@ -107,13 +106,13 @@ impl PartialEq for Passed {
 }
 
 impl Eq for Passed {
-    ghost laws = { Prim.search (comparing, rules) };
+    ghost laws = { on_equiv (λ p. p.path.items) same_equivalence };
 }
 
 impl PartialOrd for Passed {
     ghost partial_cmp = { λ a b. Some (byte_order a.path.items b.path.items) };
 
-    ghost laws = { partial_order_from_agreeing_total (λ a b. byte_order a.path.items b.path.items) (Prim.search (comparing, rules)) (λ _ _. refl) (Prim.search (comparing, rules)) };
+    ghost laws = { partial_order_from_agreeing_total (λ a b. byte_order a.path.items b.path.items) (on_total (λ p. p.path.items) byte_order_total) (λ _ _. refl) (λ a b. same_ties a.path.items b.path.items) };
 
     fn partial_cmp(&self, other: &Passed) -> Option<Ordering> {
         Some(self.cmp(other))
@@ -124,11 +123,11 @@ impl PartialOrd for Passed {
 impl Ord for Passed {
     ghost cmp = { λ a b. byte_order a.path.items b.path.items };
 
-    ghost total = { Prim.search (comparing, rules) };
+    ghost total = { on_total (λ p. p.path.items) byte_order_total };
 
-    ghost matches_partial_cmp = { Prim.search (comparing, rules) };
+    ghost matches_partial_cmp = { λ _ _. refl };
 
-    ghost matches_eq = { Prim.search (comparing, rules) };
+    ghost matches_eq = { λ a b. same_ties a.path.items b.path.items };
 
     fn cmp(&self, other: &Passed) -> Ordering {
         text::compare(self.path.as_slice(), other.path.as_slice())
@@ -140,9 +139,9 @@ pub fn class_list(heap: Global, found: &[Found]) -> Result<ClassList, AllocError
     ensures { IfOk result (λ l. Listed (map look found.now) (map entry l.nodes.items) (map told l.passed.items)) }
 {
     let ClassList { mut nodes, passed } = sift(heap, found)?;
-    nodes.sort();
+    nodes.sort()?;
     let ClassList { nodes, mut passed } = settle(heap, nodes.as_slice(), passed)?;
-    passed.sort();
+    passed.sort()?;
     Ok(ClassList { nodes, passed })
 }
 

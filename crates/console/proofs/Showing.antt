@@ -1,9 +1,9 @@
 -- What one byte adds to what is printed. Assumes nothing.
-use Rattle.std.proofs.Common.{◌≡◌, ℕ, zero, suc, ◌+◌, ◌-◌, ◌<◌, ◌≤◌, List, [], ◌∷◌, ◌++◌, length, get_or, drop, sym, refl, ap, ◌∙◌, append_assoc, append-nil, add-one, arith, drop-cons}
+use Rattle.std.proofs.Common.{◌≡◌, ℕ, zero, suc, ◌+◌, ◌-◌, ◌<◌, ◌≤◌, [], ◌∷◌, ◌++◌, length, get_or, drop, sym, refl, ap, ◌∙◌, append_assoc, append-nil, add-one, arith, drop-cons}
 use Rattle.std.proofs.lemmas.List.{drop_all}
 use Rattle.text.specs.Bytes.{Bytes}
 use Rattle.text.specs.Utf8.{sequence_length}
-use Rattle.console.specs.Shown.{first, shown_in, shown}
+use Rattle.console.specs.Shown.{first, shown_in}
 
 behind : (k b : ℕ) (t : Bytes) → 0 < k → shown_in k (b ∷ t) ≡ b ∷ shown_in (k - 1) t
 behind zero b t h = absurd (omega arith)

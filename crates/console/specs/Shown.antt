@@ -1,5 +1,5 @@
 -- Bytes as they are printed. Assumes nothing.
-use Rattle.std.specs.Prelude.{ℕ, zero, suc, ◌+◌, ◌-◌, ◌/◌, ◌%◌, Bool, true, false, cond, ◌||◌, List, [], ◌∷◌, ◌++◌, ◌==◌, nat_lt}
+use Rattle.std.specs.Prelude.{ℕ, zero, suc, ◌+◌, ◌-◌, ◌/◌, ◌%◌, cond, ◌||◌, [], ◌∷◌, ◌++◌, ◌==◌, nat_lt}
 use Rattle.text.specs.Bytes.{Bytes}
 use Rattle.text.specs.Utf8.{sequence_length}
 

@@ -10,6 +10,7 @@ use console::{command, report, shown};
 use failure::Failure;
 use std::env;
 use std::io::Write;
+use std::process::ExitCode;
 
 fn run(rt: &HostRuntime) -> Result<(), Failure> {
     let heap = rt.alloc();
@@ -36,12 +37,13 @@ fn classes(rt: &HostRuntime, archive: &str) -> Result<(), Failure> {
     Ok(())
 }
 
-fn main(rt: HostRuntime) -> Result<(), Failure> {
+fn main(rt: HostRuntime) -> ExitCode {
     let result = run(&rt);
     if let Err(failure) = &result {
         let _ = tell(&rt, failure);
+        return ExitCode::FAILURE;
     }
-    result
+    ExitCode::SUCCESS
 }
 
 // Prints why the program stops, as one line of standard error.

@@ -14,13 +14,13 @@ returns c =
     let kind = at_left 10 (kind_name x.kind) in
     let path = shown (rendered (names_of x.path)) in
     let o0 = vec_items c.args.out.now in
-    let o1 = vec_items c.push-right.new.out in
-    let o2 = vec_items c.extend-from-slice.new.self in
-    let o3 = vec_items c.push-left.new.out in
-    let o4 = vec_items c.push-shown.new.out in
+    let o1 = vec_items c.push_right.new.out in
+    let o2 = vec_items c.extend_from_slice.new.self in
+    let o3 = vec_items c.push_left.new.out in
+    let o4 = vec_items c.push_shown.new.out in
     let o5 = vec_items c.push.new.self in
     joined o0 o1 o5 number (codes "  " ++ (kind ++ (path ++ (10 ∷ []))))
-    (called o0 o1 _ number c.in-ok-push-right.ensures (ap (at_right c.args.width) (c.as-str.ensures.value ∙ c.in-ok-digits.ensures.ok)))
-    (joined o1 o2 o5 (codes "  ") (kind ++ (path ++ (10 ∷ []))) c.in-ok-extend-from-slice.ensures.items
-    (joined o2 o3 o5 kind (path ++ (10 ∷ [])) (called o2 o3 _ kind c.in-ok-push-left.ensures (ap (at_left 10) c.name.ensures))
-    (joined o3 o4 o5 path (10 ∷ []) (called o3 o4 _ path c.in-ok-push-shown.ensures (ap shown c.as-bytes.ensures)) c.in-ok-push.ensures.items)))
+    (called o0 o1 _ number c.in_ok-push_right.ensures (ap (at_right c.args.width) (c.as_str.ensures.value ∙ c.in_ok-digits.ensures.ok)))
+    (joined o1 o2 o5 (codes "  ") (kind ++ (path ++ (10 ∷ []))) c.in_ok-extend_from_slice.ensures.items
+    (joined o2 o3 o5 kind (path ++ (10 ∷ [])) (called o2 o3 _ kind c.in_ok-push_left.ensures (ap (at_left 10) c.name.ensures))
+    (joined o3 o4 o5 path (10 ∷ []) (called o3 o4 _ path c.in_ok-push_shown.ensures (ap shown c.as_bytes.ensures)) c.in_ok-push.ensures.items)))

@@ -20,18 +20,18 @@ returns c =
     let a : c.len.result ≡ length (map entry nodes) = c.len.ensures ∙ c.args.list.now.nodes.ok.0 ∙ sym (length-map nodes entry) in
     let b : c.len-2.result ≡ length (map told passed) = c.len-2.ensures ∙ c.args.list.now.passed.ok.0 ∙ sym (length-map passed told) in
     let o0 = vec_items c.new-out.result in
-    let o1 = vec_items c.extend-from-slice.new.self in
-    let o2 = vec_items c.push-shown.new.out in
-    let o3 = vec_items c.extend-from-slice-2.new.self in
-    let o4 = vec_items c.push-nodes.new.out in
-    let o5 = vec_items c.extend-from-slice-3.new.self in
-    let o6 = vec_items c.push-passed.new.out in
-    let o7 = vec_items c.push-totals.new.out in
-    joined o0 o1 o7 title (archive ++ (gap ++ (list ++ (head ++ (over ++ counts))))) c.in-ok-extend-from-slice.ensures.items
-    (joined o1 o2 o7 archive (gap ++ (list ++ (head ++ (over ++ counts)))) (called o1 o2 _ archive c.in-ok-push-shown.ensures (ap shown c.as-bytes.ensures.value))
-    (joined o2 o3 o7 gap (list ++ (head ++ (over ++ counts))) c.in-ok-extend-from-slice-2.ensures.items
-    (joined o3 o4 o7 list (head ++ (over ++ counts)) (called o3 o4 _ list c.in-ok-push-nodes.ensures (ap (λ l. nodes_text (map entry l)) c.as-slice.ensures.value))
-    (joined o4 o5 o7 head (over ++ counts) c.in-ok-extend-from-slice-3.ensures.items
-    (joined o5 o6 o7 over counts (called o5 o6 _ over c.in-ok-push-passed.ensures (ap (λ l. passed_text (map told l)) c.as-slice-2.ensures.value))
-    (called o6 o7 _ counts c.in-ok-push-totals.ensures (ap (λ n. totals n c.len-2.result) a ∙ ap (totals (length (map entry nodes))) b)))))))
+    let o1 = vec_items c.extend_from_slice.new.self in
+    let o2 = vec_items c.push_shown.new.out in
+    let o3 = vec_items c.extend_from_slice-2.new.self in
+    let o4 = vec_items c.push_nodes.new.out in
+    let o5 = vec_items c.extend_from_slice-3.new.self in
+    let o6 = vec_items c.push_passed.new.out in
+    let o7 = vec_items c.push_totals.new.out in
+    joined o0 o1 o7 title (archive ++ (gap ++ (list ++ (head ++ (over ++ counts))))) c.in_ok-extend_from_slice.ensures.items
+    (joined o1 o2 o7 archive (gap ++ (list ++ (head ++ (over ++ counts)))) (called o1 o2 _ archive c.in_ok-push_shown.ensures (ap shown c.as_bytes.ensures.value))
+    (joined o2 o3 o7 gap (list ++ (head ++ (over ++ counts))) c.in_ok-extend_from_slice-2.ensures.items
+    (joined o3 o4 o7 list (head ++ (over ++ counts)) (called o3 o4 _ list c.in_ok-push_nodes.ensures (ap (λ l. nodes_text (map entry l)) c.as_slice.ensures.value))
+    (joined o4 o5 o7 head (over ++ counts) c.in_ok-extend_from_slice-3.ensures.items
+    (joined o5 o6 o7 over counts (called o5 o6 _ over c.in_ok-push_passed.ensures (ap (λ l. passed_text (map told l)) c.as_slice-2.ensures.value))
+    (called o6 o7 _ counts c.in_ok-push_totals.ensures (ap (λ n. totals n c.len-2.result) a ∙ ap (totals (length (map entry nodes))) b)))))))
     ∙ ap (λ l. l ++ report_text c.args.archive.now (map entry nodes) (map told passed)) c.new-out.ensures.items

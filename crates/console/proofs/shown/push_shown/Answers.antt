@@ -2,7 +2,7 @@ use Rattle.std.proofs.Common.{◌+◌, ◌++◌, drop, vec_items, ap, ◌∙◌,
 use Rattle.console.specs.Shown.{shown_in}
 use Rattle.console.proofs.Showing.{next-inside, next_fresh, go_on, at_end}
 use Rattle.console.proofs.shown.push_shown.Goals as goal
-use Rattle.console.proofs.shown.push_shown.Goals.{then-inside-gt0+in-ok-push, else-inside-gt0+in-ok-push-first}
+use Rattle.console.proofs.shown.push_shown.Goals.{then-inside-gt0+in_ok-push, else-inside-gt0+in_ok-push_first}
 
 pub loop-i-preserved : goal.loop-i-preserved
 loop-i-preserved c =
@@ -10,12 +10,12 @@ loop-i-preserved c =
     let i = c.loop-i.i in
     let new = vec_items c.if-inside-gt0.out in
     elim c.if-inside-gt0.branch [
-      | then-inside-gt0+in-ok-push w ↦
+      | then-inside-gt0+in_ok-push w ↦
           ap (λ m. new ++ shown_in m (drop (i + 1) s)) w.inside-is
-          ∙ go_on _ _ _ _ _ _ (ap vec_items w.out-is ∙ w.in-ok-push.ensures.items) (next-inside s i (omega arith) c.loop-i.inside (omega arith)) c.loop-i.invariant
-      | else-inside-gt0+in-ok-push-first w ↦
-          ap (λ m. new ++ shown_in m (drop (i + 1) s)) (w.inside-is ∙ w.saturating-sub-inside.ensures)
-          ∙ go_on _ _ _ _ _ _ (ap vec_items w.out-is ∙ w.in-ok-push-first.ensures) (next_fresh s i (omega arith) c.loop-i.inside _ (omega arith) w.sequence-len-length.ensures) c.loop-i.invariant
+          ∙ go_on _ _ _ _ _ _ (ap vec_items w.out-is ∙ w.in_ok-push.ensures.items) (next-inside s i (omega arith) c.loop-i.inside (omega arith)) c.loop-i.invariant
+      | else-inside-gt0+in_ok-push_first w ↦
+          ap (λ m. new ++ shown_in m (drop (i + 1) s)) (w.inside-is ∙ w.saturating_sub-inside.ensures)
+          ∙ go_on _ _ _ _ _ _ (ap vec_items w.out-is ∙ w.in_ok-push_first.ensures) (next_fresh s i (omega arith) c.loop-i.inside _ (omega arith) w.sequence_len-length.ensures) c.loop-i.invariant
     ]
 
 pub returns : goal.returns

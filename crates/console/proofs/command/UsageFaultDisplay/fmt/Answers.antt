@@ -5,8 +5,8 @@ use Rattle.console.proofs.command.UsageFaultDisplay.fmt.Goals as goal
 
 pub returns-in-NoArchive-clause-writes : goal.returns-in-NoArchive-clause-writes
 returns-in-NoArchive-clause-writes g c p ok =
-    let P : List ℕ → Type 0 = λ t. HasWritten {W = g.row.W.Denot} g.W.Write.write_str_gives c.args.f.now t c.write-str-in-NoArchive.new.self in
-    subst P (ap complaint (sym c.in-NoArchive.is)) (c.write-str-in-NoArchive.ensures.writes p ok)
+    let P : List ℕ → Type 0 = λ t. HasWritten {W = g.row.W.Denot} g.W.Write.write_str_gives c.args.f.now t c.write_str-in-NoArchive.new.self in
+    subst P (ap complaint (sym c.in-NoArchive.is)) (c.write_str-in-NoArchive.ensures.writes p ok)
 
 pub returns-in-TooMany-clause-writes : goal.returns-in-TooMany-clause-writes
 returns-in-TooMany-clause-writes g c p ok =
