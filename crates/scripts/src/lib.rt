@@ -4,7 +4,7 @@
 mod answers;
 mod pile;
 mod run;
-mod stores;
+mod store_calls;
 mod texts;
 
 pub use run::report;

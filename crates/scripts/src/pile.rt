@@ -1,6 +1,6 @@
 // The pile that calls work on: an outer fence, over a mount, over an inner fence, over a base.
 use crate::answers::{push_done, push_fault, push_ok};
-use crate::stores::perform;
+use crate::store_calls::perform;
 use fences::{Fence, Rows};
 use keys::{StorePrefix, prefix_of};
 use lines::call::{Call, Side};
