@@ -15,8 +15,8 @@ pub data Asked : Type 0 where
   raise : Side → ℕ → Bytes → Asked
   lower : Side → ℕ → Asked
   get : Bytes → ℕ → Asked
-  next_key_lem : Bytes → Bytes → ℕ → Asked
-  next_child_lem : Bytes → Bytes → ℕ → Asked
+  next_key : Bytes → Bytes → ℕ → Asked
+  next_child : Bytes → Bytes → ℕ → Asked
   set : Bytes → Bytes → Asked
   erase : Bytes → Asked
   dump : Asked
@@ -26,7 +26,7 @@ pub data Asked : Type 0 where
   join : Bytes → Bytes → Asked
   compare : Bytes → Bytes → Asked
   key : MetadataFile → Bytes → Asked
-  data_key_lem : Bytes → Bytes → Asked
+  data_key : Bytes → Bytes → Asked
 
 -- a call of what its words stand for, if each stands for something
 abbrev pub of1 : {A : Type 0} → (A → Asked) → Option A → Option Asked
@@ -73,13 +73,13 @@ with_two n a b =
     (cond (same n (codes "join")) (of2 join (spelled a) (spelled b))
     (cond (same n (codes "compare")) (of2 compare (spelled a) (spelled b))
     (cond (same n (codes "key")) (of2 key (file_of a) (spelled b))
-    (cond (same n (codes "data-key")) (of2 data_key_lem (spelled a) (spelled b)) None)))))))
+    (cond (same n (codes "data-key")) (of2 data_key (spelled a) (spelled b)) None)))))))
 
 abbrev pub with_three : Bytes → Bytes → Bytes → Bytes → Option Asked
 with_three n a b c =
     cond (same n (codes "raise")) (of3 raise (side_of a) (number_of b) (spelled c))
-    (cond (same n (codes "next-key")) (of3 next_key_lem (spelled a) (spelled b) (size_of 1048576 c))
-    (cond (same n (codes "next-child")) (of3 next_child_lem (spelled a) (spelled b) (size_of 1048576 c)) None))
+    (cond (same n (codes "next-key")) (of3 next_key (spelled a) (spelled b) (size_of 1048576 c))
+    (cond (same n (codes "next-child")) (of3 next_child (spelled a) (spelled b) (size_of 1048576 c)) None))
 
 abbrev pub asked : List Bytes → Option Asked
 asked [] = None

@@ -1,7 +1,7 @@
 // Words read as a call.
 ghost use Rattle.std.specs.Prelude.{◌≡◌, map, vec_items};
 ghost use Rattle.lines.specs.Words.{spelled, number_of, size_of};
-ghost use Rattle.lines.specs.Calls.{shelf, lower, get, set, join, compare, key, data_key_lem, raise, next_key_lem, next_child_lem, of2, of3, side_of, file_of, alone as asked_alone, with_one, with_two, with_three, asked};
+ghost use Rattle.lines.specs.Calls.{shelf, lower, get, set, join, compare, key, data_key, raise, next_key, next_child, of2, of3, side_of, file_of, alone as asked_alone, with_one, with_two, with_three, asked};
 ghost use Rattle.lines.specs.Heard.{heard};
 
 use crate::call::{Call, Side};
@@ -162,7 +162,7 @@ fn key_call<'a>(a: &'a [u8], b: &'a [u8]) -> Option<Call<'a>>
 }
 
 fn data_key_call<'a>(a: &'a [u8], b: &'a [u8]) -> Option<Call<'a>>
-    ensures { heard result ≡ of2 data_key_lem (spelled a.now) (spelled b.now) }
+    ensures { heard result ≡ of2 data_key (spelled a.now) (spelled b.now) }
 {
     Some(Call::DataKey(Word::new(a)?, Word::new(b)?))
 }
@@ -189,13 +189,13 @@ fn raise_call<'a>(a: &'a [u8], b: &'a [u8], c: &'a [u8]) -> Option<Call<'a>>
 }
 
 fn next_key_call<'a>(a: &'a [u8], b: &'a [u8], c: &'a [u8]) -> Option<Call<'a>>
-    ensures { heard result ≡ of3 next_key_lem (spelled a.now) (spelled b.now) (size_of 1048576 c.now) }
+    ensures { heard result ≡ of3 next_key (spelled a.now) (spelled b.now) (size_of 1048576 c.now) }
 {
     Some(Call::NextKey(Word::new(a)?, Word::new(b)?, size_of(FULL_ROOM, c)?))
 }
 
 fn next_child_call<'a>(a: &'a [u8], b: &'a [u8], c: &'a [u8]) -> Option<Call<'a>>
-    ensures { heard result ≡ of3 next_child_lem (spelled a.now) (spelled b.now) (size_of 1048576 c.now) }
+    ensures { heard result ≡ of3 next_child (spelled a.now) (spelled b.now) (size_of 1048576 c.now) }
 {
     Some(Call::NextChild(Word::new(a)?, Word::new(b)?, size_of(FULL_ROOM, c)?))
 }
