@@ -7,13 +7,13 @@ mod words;
 use calls::answer;
 use std::alloc::{AllocError, AllocFailed, Global};
 use std::io;
+use std::process::ExitCode;
 use words::decoded;
 
 #[derive(Debug, Drop)]
 enum Failure {
     Input(io::Error),
     Memory,
-    Vectors(usize),
 }
 
 impl From<io::Error> for Failure {
@@ -83,7 +83,7 @@ fn spaced(heap: Global, words: &[Vec<u8>]) -> Result<Vec<u8>, AllocError> {
     Ok(line)
 }
 
-fn main(rt: HostRuntime) -> Result<(), Failure> {
+fn main(rt: HostRuntime) -> Result<ExitCode, Failure> {
     let heap = rt.alloc();
     let mut agree = 0usize;
     let mut differ = 0usize;
@@ -99,8 +99,8 @@ fn main(rt: HostRuntime) -> Result<(), Failure> {
     }
     println!(rt; "{agree} vectors agree, {differ} differ")?;
     if differ > 0 {
-        Err(Failure::Vectors(differ))
+        Ok(ExitCode::FAILURE)
     } else {
-        Ok(())
+        Ok(ExitCode::SUCCESS)
     }
 }
