@@ -1,5 +1,5 @@
 // The class list of an archive: from what was found in its folders to its nodes in path order.
-ghost use Rattle.std.specs.Prelude.{◌≡◌, cond, ◌++◌, map, IsSomeAnd, IfOk, Some, refl};
+ghost use Rattle.std.specs.Prelude.{◌≡◌, ◌++◌, map, IfOk, Some, refl};
 ghost use Rattle.text.specs.Bytes.{same, byte_order};
 ghost use Rattle.paths.specs.Names.{reserved};
 ghost use Rattle.paths.specs.Paths.{path_order, same_path};

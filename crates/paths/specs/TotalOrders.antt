@@ -1,7 +1,7 @@
 -- Path order is a strict total order, and as an order of the library it is total and says equal exactly where the test of equality does.
 -- The proofs stand here because the code's comparisons cite them.
 -- Assumes nothing.
-use Rattle.std.proofs.Common.{◌≡◌, Bool, true, false, cond, ◌⊎◌, [], ◌∷◌, sym, refl, ap, ◌∙◌, subst, inl, inr}
+use Rattle.std.proofs.Common.{◌≡◌, Bool, true, false, cond, ◌&&◌, ◌⊎◌, [], ◌∷◌, sym, refl, ap, ◌∙◌, subst, inl, inr}
 use borrow.Author.Tests.{clash}
 use Rattle.std.proofs.lemmas.Bool.{and_parts}
 use Rattle.std.specs.Cmp.{IsTotalOrder, IsEquivalence}
@@ -11,17 +11,20 @@ use Rattle.text.proofs.Order.{same_refl, same_eq, before_trans, before-alone, be
 use Rattle.text.proofs.TotalOrders.{total, equivalence, ties}
 use Rattle.paths.specs.Paths.{Name, Path, same_path, path_before, path_order}
 
+longer : (n m : Name) (p q : Path) → n ≡ m → p ≡ q → (n ∷ p) ≡ (m ∷ q)
+longer n m p q e i = ap (λ (x : Name). x ∷ p) e ∙ ap (λ (r : Path). m ∷ r) i
+
 never : {A : Type 0} → true ≡ false → A
 never h = absurd (clash (sym h))
 
 -- ---- a strict total order
 
-pub path_alone : (p : Path) → path_before p p ≡ false
-path_alone [] = refl
-path_alone (n ∷ p) = rw (same_refl n) (path_alone p)
-
 pub path_head : (n : Name) (p q : Path) → path_before (n ∷ p) (n ∷ q) ≡ path_before p q
 path_head n p q = ap (λ (b : Bool). cond b (path_before p q) (before n n)) (same_refl n)
+
+pub path_alone : (p : Path) → path_before p p ≡ false
+path_alone [] = refl
+path_alone (n ∷ p) = path_head n p p ∙ path_alone p
 
 not_same : (n m : Name) → before n m ≡ true → same n m ≡ false
 not_same n m h =
@@ -67,14 +70,14 @@ path_either (n ∷ p) (m ∷ q) = by (before_either n m) (path_either p q)
     by (inl a) i = inl (path_names n m p q a)
     by (inr (inr a)) i = inr (inr (path_names m n q p a))
     by (inr (inl e)) (inl i) = inl (subst (λ (x : Name). path_before (n ∷ p) (x ∷ q) ≡ true) e (path_head n p q ∙ i))
-    by (inr (inl e)) (inr (inl i)) = inr (inl (cc))
+    by (inr (inl e)) (inr (inl i)) = inr (inl (longer n m p q e i))
     by (inr (inl e)) (inr (inr i)) = inr (inr (subst (λ (x : Name). path_before (x ∷ q) (n ∷ p) ≡ true) e (path_head n q p ∙ i)))
 
 -- ---- the same path
 
 pub same_path_refl : (p : Path) → same_path p p ≡ true
 same_path_refl [] = refl
-same_path_refl (n ∷ p) = rw (same_refl n) (same_path_refl p)
+same_path_refl (n ∷ p) = ap (λ (b : Bool). b && same_path p p) (same_refl n) ∙ same_path_refl p
 
 pub same_path_eq : (p q : Path) → same_path p q ≡ true → p ≡ q
 same_path_eq [] [] h = refl
@@ -82,9 +85,7 @@ same_path_eq [] (m ∷ q) h = never (sym h)
 same_path_eq (n ∷ p) [] h = never (sym h)
 same_path_eq (n ∷ p) (m ∷ q) h =
     let a = and_parts (same n m) (same_path p q) h in
-    let e : n ≡ m = same_eq n m a.0 in
-    let i : p ≡ q = same_path_eq p q a.1 in
-    cc
+    longer n m p q (same_eq n m a.0) (same_path_eq p q a.1)
 
 -- ---- as an order of the library
 
