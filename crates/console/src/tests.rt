@@ -51,6 +51,33 @@ Passed over: 2
     Ok(())
 }
 
+// More nodes, and more that is passed over, than a sort orders in place.
+#[test]
+fn lists_many(rt: HostRuntime) -> Result<(), Fail> {
+    let heap = rt.alloc();
+    let mut found = Vec::new(heap);
+    for name in "z y x w v u t s r q p o n m l k j i h g f e d c b a".split(' ') {
+        let path = format!(in heap; "/{name}")?;
+        found.push(folder(heap, path.as_str(), true)?)?;
+        let below = format!(in heap; "/{name}/0")?;
+        found.push(folder(heap, below.as_str(), false)?)?;
+    }
+    let list = class_list(heap, found.as_slice())?;
+    let mut nodes = Vec::new(heap);
+    for node in &list.nodes {
+        nodes.extend_from_slice(node.path.as_bytes())?;
+    }
+    let mut passed = Vec::new(heap);
+    for one in &list.passed {
+        passed.extend_from_slice(one.path.as_slice())?;
+    }
+    assert!(rt; nodes.as_slice() == &b"/a/b/c/d/e/f/g/h/i/j/k/l/m/n/o/p/q/r/s/t/u/v/w/x/y/z"[..]);
+    let expected =
+        b"/a/0/b/0/c/0/d/0/e/0/f/0/g/0/h/0/i/0/j/0/k/0/l/0/m/0/n/0/o/0/p/0/q/0/r/0/s/0/t/0/u/0/v/0/w/0/x/0/y/0/z/0";
+    assert!(rt; passed.as_slice() == &expected[..]);
+    Ok(())
+}
+
 #[test]
 fn reports_an_empty_list(rt: HostRuntime) -> Result<(), Fail> {
     let heap = rt.alloc();
