@@ -1,5 +1,5 @@
 // The calls that vectors name, and their answers as text.
-use keys::{StoreFault, StoreKey, StorePrefix};
+use keys::{MetadataFile, StoreFault, StoreKey, StorePrefix};
 use paths::{NodeName, NodePath, PathFault, PathRow};
 use std::alloc::{AllocError, Global};
 use std::cmp::Ordering;
@@ -114,10 +114,10 @@ fn through_row(path: &[u8]) -> Result<NodePath, PathFault> {
 fn meta_key(file: &[u8], path: &[u8]) -> Result<StoreKey, Refusal> {
     let path = NodePath::new(path)?;
     Ok(match file {
-        b"v3" => keys::meta_key_v3(&path),
-        b"array" => keys::meta_key_v2_array(&path),
-        b"group" => keys::meta_key_v2_group(&path),
-        _ => keys::meta_key_v2_attributes(&path),
+        b"v3" => keys::meta_key(&path, MetadataFile::ZarrJson),
+        b"array" => keys::meta_key(&path, MetadataFile::Zarray),
+        b"group" => keys::meta_key(&path, MetadataFile::Zgroup),
+        _ => keys::meta_key(&path, MetadataFile::Zattrs),
     })
 }
 
