@@ -1,14 +1,15 @@
 -- The rows of the table: what the code's rows say of bytes, and that one row at most begins with a byte.
 -- Assumes nothing.
-use Rattle.std.proofs.Common.{◌≡◌, ℕ, zero, suc, ◌<◌, ◌≤◌, Bool, true, false, cond, ◌&&◌, ltb, leb, List, [], ◌∷◌, map, length, take, drop, Some, None, Option, unwrap_or, Bor, sym, refl, ap, ◌∙◌, arith, leb-true, ltb-true}
+use Rattle.std.proofs.Common.{◌≡◌, ℕ, zero, suc, ◌+◌, ◌-◌, ◌*◌, ◌^◌, ◌<◌, ◌≤◌, Bool, true, false, cond, ◌&&◌, ◌==◌, ltb, leb, List, [], ◌∷◌, map, length, get_or, take, drop, Some, None, Option, unwrap_or, Bor, sym, refl, ap, ◌∙◌, subst, arith, rules, tests, leb-true, ltb-true, le-ltb, lt-ltb}
+use lib.Count.{count_leading_zeros, leading_unique}
 use borrow.Author.Tests.{lt-leb, clash}
 use Rattle.std.proofs.lemmas.List.{length-map, drop_all}
 use Rattle.std.specs.List.{list_all, find, zip}
 use Rattle.text.specs.Bytes.{Bytes}
-use Rattle.text.specs.Rows.{range_of, fits}
+use Rattle.text.specs.Rows.{range_of, fits, width_of}
 use Rattle.text.specs.Utf8.{Range, inside, of_row, begins, rows, length_in, sequence_length, unless_zero}
 use Rattle.text.specs.declared.utf8.ByteRange.{ByteRange}
-use Rattle.text.proofs.Texts.{both}
+use Rattle.text.proofs.Texts.{both, inside_low}
 
 -- ---- a length that is none where it is 0
 zero_if_none : (n : ℕ) → unwrap_or (unless_zero n) 0 ≡ n
@@ -87,6 +88,72 @@ module _ (t : Bytes) where
     pub a_row : list_all is_row read_rows ≡ true → (found : Bor (List ByteRange)) → find row_fits read_rows ≡ Some found → Some (length found.now) ≡ unless_zero (sequence_length t)
     unfolding sequence_length
     a_row h found e = first_fits read_rows found h e ∙ ap unless_zero (ap (λ ms. length_in ms t) same)
+
+-- ---- how many leading ones the first byte has
+-- every first byte of a row of n bytes has n leading ones, and none if n is 1
+abbrev wide : List Range → Bool
+wide [] = false
+wide (r ∷ []) = ltb r.high 128
+wide (r ∷ q ∷ row) =
+    let m = 8 - length (r ∷ q ∷ row) in
+    leb (length (r ∷ q ∷ row)) 8 && (leb 128 r.low && (ltb (255 - r.low) (2 ^ m) && leb (2 ^ m) (2 * (255 - r.high) + 1)))
+
+abbrev pub wides : List (List Range) → Bool
+wides [] = true
+wides (row ∷ more) = wide row && wides more
+
+ones : (b n m p low high : ℕ) → p ≡ 2 ^ m → n + m ≡ 8 → 128 ≤ low → 255 - low < p → p ≤ 2 * (255 - high) + 1 → low ≤ b → b ≤ high → n ≡ width_of b
+ones b n m p low high e sum big under over l h =
+    let w : n ≡ count_leading_zeros 8 (255 - b) = leading_unique 8 (255 - b) n m sum (subst (λ q. 255 - b < q) e (omega arith)) (subst (λ q. q ≤ 2 * (255 - b) + 1) e (omega arith)) in
+    w ∙ sym (ap (λ t. cond t 1 (count_leading_zeros 8 (255 - b))) (le-ltb b 128 (omega arith)))
+
+row_width : (row : List Range) (b : ℕ) (t : Bytes) → wide row ≡ true → of_row row (take (length row) (b ∷ t)) ≡ true → length row ≡ width_of b
+row_width [] b t w e = absurd (clash w)
+row_width (r ∷ []) b t w e =
+    let s = inside_low r b (both (inside r b) (of_row [] []) e).0 in
+    let u = ltb-true r.high 128 w in
+    sym (ap (λ t. cond t 1 (count_leading_zeros 8 (255 - b))) (lt-ltb b 128 (omega arith)))
+row_width (r ∷ q ∷ row) b t w e =
+    let n = length (r ∷ q ∷ row) in
+    let m = 8 - n in
+    let s = inside_low r b (both (inside r b) (of_row (q ∷ row) (take (length (q ∷ row)) t)) e).0 in
+    let w1 = both (leb n 8) (leb 128 r.low && (ltb (255 - r.low) (2 ^ m) && leb (2 ^ m) (2 * (255 - r.high) + 1))) w in
+    let w2 = both (leb 128 r.low) (ltb (255 - r.low) (2 ^ m) && leb (2 ^ m) (2 * (255 - r.high) + 1)) w1.1 in
+    let w3 = both (ltb (255 - r.low) (2 ^ m)) (leb (2 ^ m) (2 * (255 - r.high) + 1)) w2.1 in
+    let few : n ≤ 8 = leb-true n 8 w1.0 in
+    ones b n m (2 ^ m) r.low r.high refl (omega arith) (leb-true 128 r.low w2.0) (ltb-true (255 - r.low) (2 ^ m) w3.0) (leb-true (2 ^ m) (2 * (255 - r.high) + 1) w3.1) s.0 s.1
+
+-- a row of the code whose length is what a first byte asks for, and that fits
+abbrev pub row_asked : ℕ → Bytes → Bor (List ByteRange) → Bool
+row_asked n t row = (length row.now == n) && fits row.now t
+
+same_row : (n b : ℕ) (t : Bytes) (row : Bor (List ByteRange)) → n ≡ width_of b → wide (map range_of row.now) ≡ true → row_asked n (b ∷ t) row ≡ row_fits (b ∷ t) row
+same_row n b t row e w =
+    by (fits row.now (b ∷ t)) refl (length row.now == n)
+    (λ f. let ranges = map range_of row.now in
+    let long : length ranges ≡ length row.now = length-map row.now range_of in
+    let wide_one = row_width ranges b t w (ap (λ k. of_row ranges (take k (b ∷ t))) long ∙ f) in
+    eq_true (length row.now) n (sym long ∙ wide_one ∙ sym e))
+  where
+    eq_true : (x y : ℕ) → x ≡ y → (x == y) ≡ true
+    eq_true x y f = search (rules, tests)
+
+    by : (x : Bool) → fits row.now (b ∷ t) ≡ x → (y : Bool) → (x ≡ true → y ≡ true) → (y && x) ≡ x
+    by true f y h = rw (h refl)
+    by false f true h = refl
+    by false f false h = refl
+
+-- asking for that length passes over no row that fits
+pub same_find : (n b : ℕ) (t : Bytes) (rows : List (Bor (List ByteRange))) → n ≡ width_of b → wides (read rows) ≡ true → find (row_asked n (b ∷ t)) rows ≡ find (row_fits (b ∷ t)) rows
+same_find n b t [] e w = refl
+same_find n b t (row ∷ more) e w =
+    let s = both (wide (map range_of row.now)) (wides (read more)) w in
+    ap (λ x. cond x (Some row) (find (row_asked n (b ∷ t)) more)) (same_row n b t row e s.0)
+    ∙ ap (λ r. cond (row_fits (b ∷ t) row) (Some row) r) (same_find n b t more e s.1)
+
+pub same_find_of : (n x : ℕ) (t : Bytes) (rows : List (Bor (List ByteRange))) → 0 < length t → x ≡ get_or t 0 x → n ≡ width_of x → wides (read rows) ≡ true → find (row_asked n t) rows ≡ find (row_fits t) rows
+same_find_of n x [] rows h i e w = absurd (omega arith)
+same_find_of n x (b ∷ t) rows h i e w = same_find n b t rows (e ∙ ap width_of i) w
 
 -- ---- the rows' first ranges rise, so that one row at most begins with a byte
 abbrev pub rising : ℕ → List (List Range) → Bool

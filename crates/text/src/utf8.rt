@@ -1,6 +1,6 @@
 // Well-formed UTF-8, by the Unicode Standard's table of byte sequences.
 ghost use Rattle.std.specs.Prelude.{◌≡◌, drop};
-ghost use Rattle.text.specs.Rows.{range_of, fits};
+ghost use Rattle.text.specs.Rows.{range_of, fits, width_of};
 ghost use Rattle.text.specs.Utf8.{sequence_length, unless_zero, inside, is_text};
 
 // Bytes from the first to the second, both counted in.
@@ -39,12 +39,23 @@ fn fits(row: &[ByteRange], bytes: &[u8]) -> bool
     row.len() <= bytes.len() && row.iter().zip(bytes).all(|(range, b)| range.contains(*b))
 }
 
+// How many bytes a first byte asks for, by its leading ones.
+fn width(b: u8) -> usize
+    ensures { result ≡ width_of b }
+{
+    if b < 128 {
+        return 1;
+    }
+    (!b).leading_zeros() as usize
+}
+
 // How many bytes the well-formed sequence at `at` has, or none if none stands there.
 pub fn sequence_len(s: &[u8], at: usize) -> Option<usize>
     ensures { result ≡ unless_zero (sequence_length (drop at s.now)) }
 {
     let bytes = s.get(at..)?;
-    let row = ROWS.iter().find(|row| fits(row, bytes))?;
+    let n = width(*bytes.first()?);
+    let row = ROWS.iter().find(|row| row.len() == n && fits(row, bytes))?;
     Some(row.len())
 }
 
