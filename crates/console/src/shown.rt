@@ -15,7 +15,7 @@ pub fn push_shown(out: &mut Vec<u8>, bytes: &[u8]) -> Result<(), AllocError>
             out.push(bytes[i])?;
             inside -= 1;
         } else {
-            let length = text::sequence_len(bytes, i);
+            let length = text::sequence_len(bytes, i).unwrap_or(0);
             push_first(out, bytes[i], length)?;
             inside = length.saturating_sub(1);
         }

@@ -70,7 +70,7 @@ pub(crate) fn join(
 fn two_paths(one: &[u8], two: &[u8]) -> Result<Ordering, PathFault> {
     let one = NodePath::new(one)?;
     let two = NodePath::new(two)?;
-    Ok(one.compare(&two))
+    Ok(one.cmp(&two))
 }
 
 pub(crate) fn compare(

@@ -1,5 +1,6 @@
 use Rattle.std.proofs.Common.{◌+◌, ◌++◌, drop, vec_items, ap, ◌∙◌, arith}
 use Rattle.printing.specs.Shown.{shown_in}
+use Rattle.text.proofs.Rows.{or_zero}
 use Rattle.printing.proofs.Showing.{next-inside, next_fresh, go_on, at_end}
 use Rattle.printing.proofs.shown.push_shown.Goals as goal
 use Rattle.printing.proofs.shown.push_shown.Goals.{then-inside-gt0+in_ok-push, else-inside-gt0+in_ok-push_first}
@@ -15,7 +16,7 @@ loop-i-preserved c =
           ∙ go_on _ _ _ _ _ _ (ap vec_items w.out-is ∙ w.in_ok-push.ensures.items) (next-inside s i (omega arith) c.loop-i.inside (omega arith)) c.loop-i.invariant
       | else-inside-gt0+in_ok-push_first w ↦
           ap (λ m. new ++ shown_in m (drop (i + 1) s)) (w.inside-is ∙ w.saturating_sub-inside.ensures)
-          ∙ go_on _ _ _ _ _ _ (ap vec_items w.out-is ∙ w.in_ok-push_first.ensures) (next_fresh s i (omega arith) c.loop-i.inside _ (omega arith) w.sequence_len-length.ensures) c.loop-i.invariant
+          ∙ go_on _ _ _ _ _ _ (ap vec_items w.out-is ∙ w.in_ok-push_first.ensures) (next_fresh s i (omega arith) c.loop-i.inside _ (omega arith) (or_zero _ _ _ w.sequence_len.ensures w.unwrap_or-length.ensures)) c.loop-i.invariant
     ]
 
 pub returns : goal.returns
