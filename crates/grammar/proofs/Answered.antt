@@ -40,7 +40,7 @@ rest_end (uni_d d g n b k) r e = let z : ◌≡◌ {A = ℕ} 0 1 = cc in omega a
 rest_end (seq d g n a c cs k) r e = let z : ◌≡◌ {A = ℕ} 0 1 = cc in omega arith
 rest_end (lit d l j k) r e = let z : ◌≡◌ {A = ℕ} 0 1 = cc in omega arith
 
-rest_run : (t : List ℕ) (s : St) (r : List ℕ) → run s t ≡ stuck r → length r ≤ length t
+pub rest_run : (t : List ℕ) (s : St) (r : List ℕ) → run s t ≡ stuck r → length r ≤ length t
 rest_run [] s r e = rest_end s r e
 rest_run (b ∷ t) s r e = rest_turn (step s b) b t r (λ m h. rest_run t m r h) e
 
