@@ -26,6 +26,11 @@ module _ {T E D : Type 0} (G : T → Type 0) (R : E → Type 0) (P : E → D →
   mapped_err (Ok y) o f g m z = let h : Ok y ≡ Err f = sym m ∙ z in let n : ◌≡◌ {A = ℕ} 0 1 = cc in absurd (omega arith)
   mapped_err (Err e) o f g m z = (e, g, rw z at m)
 
+  pub mapped : (G' : T → Type 0) (F : D → Type 0) (r : Result T E) (o : Result T D) → MatchResult r G R → MatchResult r (λ y. o ≡ Ok y) (λ e. IsErrAnd o (P e)) → ((x : T) → G x → G' x) → ((e : E) (f : D) → R e → P e f → F f) → MatchResult o G' F
+  mapped G' F (Ok y) o g m f h = subst (λ w. MatchResult w G' F) (sym m) (f y g)
+  mapped G' F (Err e) (Ok y) g m f h = absurd m
+  mapped G' F (Err e) (Err z) g m f h = h e z g m
+
 refused_as : (s r : List ℕ) (f : DocumentFault) → Refused s (length s - length r) → f ≡ Syntax (length s - length r) → FaultOf s f
 refused_as s r f n e = subst (λ x. FaultOf s x) (sym e) n
 

@@ -164,10 +164,11 @@ o_pair d s r q o v g p =
     }
 
 module _ (d : ℕ) (s r : List ℕ) (p : PastPair d s r) where
+  pub o_pair_stops : NoBlank r → Unlike ℕ SameByte 125 r → Unlike ℕ SameByte 44 r → Refuses (AnyObject d) s r
+  o_pair_stops n u v k = p.goes k ∙ pair_stops r n u v d p.last p.before p.named k
+
   pub o_pair_bad : (q : List ℕ) → NoBlank r → Unlike ℕ SameByte 125 r → Differs ℕ SameByte (44 ∷ []) r q → Refuses (AnyObject d) s q
-  o_pair_bad q n u f k =
-      let g = one_differs 44 r q f in
-      p.goes k ∙ subst (λ (x : List ℕ). run (aft d p.last (in_obj p.before p.named ∷ k)) r ≡ stopped x) g.0 (pair_stops r n u g.1 d p.last p.before p.named k)
+  o_pair_bad q n u f = let g = one_differs 44 r q f in subst (λ (x : List ℕ). Refuses (AnyObject d) s x) g.0 (o_pair_stops n u g.1)
 
   unfoldable pub o_close : (q : List ℕ) → r ≡ 125 ∷ q → GotObject d s q
   o_close q h =
@@ -178,10 +179,9 @@ module _ (d : ℕ) (s r : List ℕ) (p : PastPair d s r) where
         goes = λ k. p.goes k ∙ go_at (aft d p.last (in_obj p.before p.named ∷ k)) (aft (suc d) j k) r q 125 h refl;
       }
 
-  unfoldable pub o_next : (q o : List ℕ) → Part (Each ℕ SameByte (44 ∷ [])) r q → Part Ws q o → AtName d s o
-  o_next q o f w =
+  unfoldable pub o_next : (q o : List ℕ) → r ≡ 44 ∷ q → Part Ws q o → AtName d s o
+  o_next q o h w =
       let ms : Members = malso p.before p.named p.last in
-      let h : r ≡ 44 ∷ q = one_is 44 r q f in
       record {
         before = ms;
         part = part_then (ShowsMembers d p.before p.named p.last) (Marked 44) (ReadyName d ms) s r o (λ t u x y. rw y.1 (rn_next x y.2)) p.part (marked 44 r q o h w);

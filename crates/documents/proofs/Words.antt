@@ -87,6 +87,17 @@ pub starts_not : (b : ℕ) (s : List ℕ) → pointwise nat_eq (take 1 s) (b ∷
 starts_not b [] h = tt
 starts_not b (x ∷ s) h = and_true (eqb x b) false h
 
+pub begins : (b : ℕ) (s : List ℕ) → pointwise nat_eq (b ∷ []) (take 1 s) ≡ true → s ≡ b ∷ drop 1 s
+begins b [] h = absurd (clash h)
+begins b (x ∷ s) h = rw (eqb_is b x (and_true (eqb b x) true h)) refl
+
+pub begins_not : (b : ℕ) (s : List ℕ) → pointwise nat_eq (b ∷ []) (take 1 s) ≡ false → Unlike ℕ SameByte b s
+begins_not b [] h = tt
+begins_not b (x ∷ s) h = turned b x (and_true (eqb b x) false h)
+  where
+    turned : (b x : ℕ) → eqb b x ≡ false → eqb x b ≡ false
+    turned b x h = grind (arith, nat_tests)
+
 still : (d : ℕ) (a : List ℕ) (c : ℕ) (l : List ℕ) (j : Json) (k : Stack) → lit_end d (a ++ (c ∷ l)) j k ≡ lit d (a ++ (c ∷ l)) j k
 still d [] c l j k = refl
 still d (x ∷ a) c l j k = refl

@@ -1,6 +1,6 @@
 use Rattle.std.proofs.Common.{rules}
 use Rattle.std.proofs.lemmas.Result.{MatchResult-weaker, err_from_is_err_and}
-use Rattle.documents.proofs.Words.{starts, starts_not}
+use Rattle.documents.proofs.Words.{one_is, starts, starts_not}
 use Rattle.documents.proofs.Values.{v_string, v_no_string, v_minus, v_no_minus, v_zero, v_no_zero, v_positive, v_no_positive, v_true, v_no_true, v_false, v_no_false, v_null, v_no_null, v_array, v_no_array, v_object, v_no_object}
 use Rattle.documents.proofs.Arrays.{a_none, a_begin, a_item, a_item_bad, a_close, a_next}
 use Rattle.documents.proofs.Objects.{o_none, o_begin, o_name, o_pair, o_pair_bad, o_close, o_next}
@@ -38,7 +38,7 @@ object-returns-in_err-follow t c =
     rw (p.1, p.2) (o_pair_bad _ _ _ (o_pair _ _ _ _ _ (o_name _ _ _ _ _ c.loop-named.invariant c.in_ok-named.ensures) c.in_ok-value.ensures c.blanks-end.ensures) _ c.blanks-end.result.no_blank (starts_not 125 _ c.in_default-strip_prefix.ensures.cases) c.in_err-follow.ensures)
 
 pub object-loop-named-preserved : goal.object-loop-named-preserved
-object-loop-named-preserved t c = o_next _ _ _ (o_pair _ _ _ _ _ (o_name _ _ _ _ _ c.loop-named.invariant c.in_ok-named.ensures) c.in_ok-value.ensures c.blanks-end.ensures) _ _ c.in_ok-follow.ensures c.blanks-member-in-loop-named.ensures
+object-loop-named-preserved t c = o_next _ _ _ (o_pair _ _ _ _ _ (o_name _ _ _ _ _ c.loop-named.invariant c.in_ok-named.ensures) c.in_ok-value.ensures c.blanks-end.ensures) _ _ (one_is 44 _ _ c.in_ok-follow.ensures) c.blanks-member-in-loop-named.ensures
 
 pub value-returns-in-Some-Quote : goal.value-returns-in-Some-Quote
 value-returns-in-Some-Quote t c = MatchResult-weaker c.chars.result c.chars.ensures (λ q g. v_string _ _ _ _ c.in-Some.ensures.cases.0 (cc) _ g) (λ q g. v_no_string _ _ _ _ c.in-Some.ensures.cases.0 (cc) _ g)
