@@ -23,7 +23,7 @@ module _ {T E D : Type 0} (G : T → Type 0) (R : E → Type 0) (P : E → D →
   mapped_ok (Err e) o x g m z = absurd (rw z at m)
 
   pub mapped_err : (r : Result T E) (o : Result T D) (f : D) → MatchResult r G R → MatchResult r (λ y. o ≡ Ok y) (λ e. IsErrAnd o (P e)) → o ≡ Err f → (e : E) × R e × P e f
-  mapped_err (Ok y) o f g m z = let h : Ok y ≡ Err f = sym m ∙ z in let n : ◌≡◌ {A = ℕ} 0 1 = cc in absurd (omega arith)
+  mapped_err (Ok y) o f g m z = let h : Ok y ≡ Err f = sym m ∙ z in grind arith
   mapped_err (Err e) o f g m z = (e, g, rw z at m)
 
   pub mapped : (G' : T → Type 0) (F : D → Type 0) (r : Result T E) (o : Result T D) → MatchResult r G R → MatchResult r (λ y. o ≡ Ok y) (λ e. IsErrAnd o (P e)) → ((x : T) → G x → G' x) → ((e : E) (f : D) → R e → P e f → F f) → MatchResult o G' F

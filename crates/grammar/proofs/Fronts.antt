@@ -27,9 +27,9 @@ space_is b h = grind (arith, nat_tests)
 
 top_turn : (w : List ℕ) (d : ℕ) (j i : Json) (b : ℕ) → (run (aft d j []) w ≡ done i → AllBlank w × (j ≡ i)) → (c : Option Punct) → punct_of 256 256 b ≡ c → turn (step_top c d j) b w ≡ done i → AllBlank (b ∷ w) × (j ≡ i)
 top_turn w d j i b f (Some Space) h e = let r = f e in ((space_is b h, r.0), r.1)
-top_turn w d j i b f (Some One) h e = let z : ◌≡◌ {A = ℕ} 0 1 = cc in absurd (omega arith)
-top_turn w d j i b f (Some Two) h e = let z : ◌≡◌ {A = ℕ} 0 1 = cc in absurd (omega arith)
-top_turn w d j i b f None h e = let z : ◌≡◌ {A = ℕ} 0 1 = cc in absurd (omega arith)
+top_turn w d j i b f (Some One) h e = grind arith
+top_turn w d j i b f (Some Two) h e = grind arith
+top_turn w d j i b f None h e = grind arith
 
 run_top : (w : List ℕ) (d : ℕ) (j i : Json) → run (aft d j []) w ≡ done i → AllBlank w × (j ≡ i)
 run_top [] d j i e = let f : j ≡ i = cc in (tt, f)

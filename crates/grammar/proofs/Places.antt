@@ -20,7 +20,7 @@ refused_at s q [] h e g =
       longest = record {
         splits = sym (take-append-drop q s);
         starts = subst Viable all x.0;
-        ends = λ b t z v. (let n : ◌≡◌ {A = ℕ} 0 1 = cc in omega arith);
+        ends = λ b t z v. (grind arith);
       };
       no_text = x.1;
     }
@@ -32,7 +32,7 @@ refused_at s q (b ∷ r) h e g =
     record {
       within = h;
       longest = subst (λ (y : List ℕ). Longest s (take q s) y) (sym e) (subst (λ (y : List ℕ). Longest s y (b ∷ r)) same x.1);
-      no_text = no_text_if s (stuck (b ∷ r)) g (λ j z. (let n : ◌≡◌ {A = ℕ} 0 1 = cc in omega arith));
+      no_text = no_text_if s (stuck (b ∷ r)) g (λ j z. (grind arith));
     }
 
 -- where the automaton stops before what is left, that place is refused
@@ -77,8 +77,8 @@ split_refused s p r l n =
 either : (s : List ℕ) (o : Out) → parse s ≡ o → Says s o → Text s ⊎ ((n : ℕ) × Refused s n)
 either s (done j) e x = inl (j, x)
 either s open_end e x =
-    inr (length s, split_refused s s [] (record { splits = sym (append-nil s); starts = x.0; ends = λ b t z v. (let n : ◌≡◌ {A = ℕ} 0 1 = cc in omega arith) }) x.1)
-either s (stuck r) e x = inr (length x.0, split_refused s x.0 r x.1 (no_text_if s (stuck r) e (λ j z. (let n : ◌≡◌ {A = ℕ} 0 1 = cc in omega arith))))
+    inr (length s, split_refused s s [] (record { splits = sym (append-nil s); starts = x.0; ends = λ b t z v. (grind arith) }) x.1)
+either s (stuck r) e x = inr (length x.0, split_refused s x.0 r x.1 (no_text_if s (stuck r) e (λ j z. (grind arith))))
 
 pub text_or_longest : TextOrLongest
 text_or_longest s = either s (parse s) refl (says s)

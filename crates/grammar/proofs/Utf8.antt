@@ -128,7 +128,7 @@ three_in : (b : ℕ) → char_of b ≡ Some (Long lead.Three) → (225 ≤ b) ×
 three_in b h = (grind (arith, nat_tests), grind (arith, nat_tests))
 
 three_not : (b : ℕ) → char_of b ≡ Some (Long lead.Three) → b ≡ 237 → ⊥
-three_not b h e = let z : char_of 237 ≡ Some (Long lead.Three) = ap char_of (sym e) ∙ h in let n : ◌≡◌ {A = ℕ} 0 1 = cc in omega arith
+three_not b h e = let z : char_of 237 ≡ Some (Long lead.Three) = ap char_of (sym e) ∙ h in grind arith
 
 ed_in : (b : ℕ) → char_of b ≡ Some (Long lead.ThreeED) → b ≡ 237
 ed_in b h = grind (arith, nat_tests)

@@ -131,11 +131,10 @@ bare_at s r p n = ap bare p.splits ∙ (bare_ws p.holds r ∙ bare_plain r n)
 pub l_outside : (s : List ℕ) (a : ℕ) → length s < a → (t : List ℕ) → bare (drop a s) ≡ 123 ∷ t → ⊥
 l_outside s a h t e =
     let g : [] ≡ 123 ∷ t = sym (ap bare (drop_all a s (omega arith))) ∙ e in
-    let z : ◌≡◌ {A = ℕ} 0 1 = cc in
-    omega arith
+    grind arith
 
 other : (r t : List ℕ) → Unlike ℕ SameByte 123 r → r ≡ 123 ∷ t → ⊥
-other [] t u e = let z : ◌≡◌ {A = ℕ} 0 1 = cc in omega arith
+other [] t u e = grind arith
 other (b ∷ r) t u e = let h : b ≡ 123 = cc in not_is b 123 u h
 
 pub l_other : (s : List ℕ) (a : ℕ) (r : List ℕ) → Part Ws (drop a s) r → NoBlank r → Unlike ℕ SameByte 123 r → (t : List ℕ) → bare (drop a s) ≡ 123 ∷ t → ⊥
