@@ -1,28 +1,21 @@
 // The bytes of a text without the white space outside its strings.
-ghost use Rattle.std.specs.Prelude.{◌≡◌, ◌≤◌, ◌++◌, length, drop};
+ghost use Rattle.std.specs.Prelude.{◌≡◌};
+ghost use Rattle.std.specs.Iterator.{YieldsFirst, item_count};
 ghost use Rattle.grammar.specs.Compact.{moved, dropped, squeezed};
 ghost use Rattle.grammar.specs.declared.kinds.Place.TheVariants.{Between};
 
+use documents::is_blank;
 use grammar::Place;
 
 // Where the next byte stands.
 fn place_after(place: Place, b: u8) -> Place
     ensures { result ≡ moved place b }
 {
-    match place {
-        Place::Between => {
-            if b == b'"' {
-                Place::InString
-            } else {
-                Place::Between
-            }
-        }
-        Place::InString => match b {
-            b'"' => Place::Between,
-            b'\\' => Place::Escaped,
-            _ => Place::InString,
-        },
-        Place::Escaped => Place::InString,
+    match (place, b) {
+        (Place::Between, b'"') => Place::InString,
+        (Place::Between, _) | (Place::InString, b'"') => Place::Between,
+        (Place::InString, b'\\') => Place::Escaped,
+        (Place::InString | Place::Escaped, _) => Place::InString,
     }
 }
 
@@ -30,39 +23,45 @@ fn place_after(place: Place, b: u8) -> Place
 fn is_dropped(place: Place, b: u8) -> bool
     ensures { result ≡ dropped place b }
 {
-    match place {
-        Place::Between => matches!(b, b' ' | b'\t' | b'\n' | b'\r'),
-        Place::InString | Place::Escaped => false,
+    matches!(place, Place::Between) && is_blank(b)
+}
+
+// The bytes that stay, from a place in a text on, one by one.
+#[derive(Clone, Copy)]
+pub(crate) struct Squeezed<'a> {
+    place: Place,
+    rest: &'a [u8],
+}
+
+impl<'a> Squeezed<'a> {
+    // From the front of a text on.
+    pub(crate) fn new(doc: &'a [u8]) -> Squeezed<'a>
+        ensures place { result.place ≡ Between }
+        ensures rest { result.rest.now ≡ doc.now }
+    {
+        Squeezed {
+            place: Place::Between,
+            rest: doc,
+        }
     }
 }
 
-// How many bytes are left.
-pub(crate) fn squeezed_len(doc: &[u8]) -> usize
-    ensures { result ≡ length (squeezed Between doc.now) }
-{
-    let mut place = Place::Between;
-    let mut n: usize = 0;
-    for b in doc {
-        if !is_dropped(place, *b) {
-            n += 1;
-        }
-        place = place_after(place, *b);
-    }
-    n
-}
+impl Iterator for Squeezed<'_> {
+    type Item = u8;
 
-// Writes what is left at the front of the output, which has room for it.
-pub(crate) fn squeeze(doc: &[u8], out: &mut [u8])
-    requires { length (squeezed Between doc.now) ≤ length out.old }
-    ensures { out.new ≡ squeezed Between doc.now ++ drop (length (squeezed Between doc.now)) out.old }
-{
-    let mut place = Place::Between;
-    let mut n: usize = 0;
-    for b in doc {
-        if !is_dropped(place, *b) {
-            out[n] = *b;
-            n += 1;
+    ghost next_gives = { YieldsFirst (λ s. squeezed s.place s.rest.now) };
+
+    ghost remaining = { item_count (λ s. squeezed s.place s.rest.now) };
+
+    fn next(&mut self) -> Option<u8> {
+        while let Some((b, rest)) = self.rest.split_first() {
+            let place = self.place;
+            self.place = place_after(place, *b);
+            self.rest = rest;
+            if !is_dropped(place, *b) {
+                return Some(*b);
+            }
         }
-        place = place_after(place, *b);
+        None
     }
 }

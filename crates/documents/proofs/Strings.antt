@@ -1,120 +1,135 @@
--- Strings and their escapes at a place.
+-- Strings and their escapes.
 -- Assumes nothing.
-use Rattle.std.proofs.Common.{◌≡◌, ℕ, ◌+◌, ◌<◌, ◌≤◌, List, [], ◌∷◌, ◌++◌, length, get_or, drop, sym, refl, ap, ◌∙◌, subst, arith}
+use Rattle.std.proofs.Common.{◌≡◌, ℕ, List, [], ◌∷◌, ◌++◌, length, Some, None, sym, refl, ap, ◌∙◌, subst, arith}
 use Rattle.std.proofs.lemmas.Bool.Decides.{nat_tests}
-use Rattle.grammar.specs.Grammar.{Chars, c_long, c_escape, c_unit, c_unit_d, c_pair, Seq}
-use Rattle.grammar.specs.Machine.{Stack, Role, chars, esc, uni, uni_d, seq_go, step_chars, step_esc, step_uni, step_uni_d, run}
-use Rattle.grammar.specs.Terminals.{char_of, behind, escape_of, first_of, second_of, pair_tail}
+use Rattle.grammar.specs.Grammar.{Chars, c_none, c_plain, c_long, c_escape, c_unit, c_unit_d, c_pair, Seq}
+use Rattle.grammar.specs.Machine.{Stack, Role, go, chars, esc, uni, uni_d, seq_go, step_chars, step_esc, step_uni, step_uni_d, run}
+use Rattle.grammar.specs.Terminals.{fits, char_of, behind, escape_of, first_of, second_of, pair_tail}
+use Rattle.grammar.specs.declared.kinds.Class.{Class}
 use Rattle.grammar.specs.declared.kinds.Class.TheVariants.{Hex}
 use Rattle.grammar.specs.declared.kinds.Lead.{Lead}
-use Rattle.grammar.specs.declared.kinds.Char.TheVariants.{EndQuote, Back, Long, NoChar}
-use Rattle.grammar.specs.declared.kinds.Escape.TheVariants.{Simple, CodeUnit, NoEscape}
-use Rattle.grammar.specs.declared.kinds.FirstHex.TheVariants.{FirstD, OtherHex, NoFirst}
-use Rattle.grammar.specs.declared.kinds.SecondHex.TheVariants.{Whole, High, NoSecond}
+use Rattle.grammar.specs.declared.kinds.Char.TheVariants.{Plain, EndQuote, Back, Long}
+use Rattle.grammar.specs.declared.kinds.Escape.TheVariants.{Simple, CodeUnit}
+use Rattle.grammar.specs.declared.kinds.FirstHex.TheVariants.{FirstD, OtherHex}
+use Rattle.grammar.specs.declared.kinds.SecondHex.TheVariants.{Whole, High}
 use Rattle.grammar.proofs.Complete.{c_chars}
-use Rattle.documents.specs.Reading.{Part, Refuses, AnyString, AnyEscape, AnyUnit, AnyUnitD, AnySeq, AfterBack, AfterU, AfterD, GotString}
-use Rattle.documents.proofs.Parts.{part_one, part_then, part_front, go_at, bad_at, end_at}
+use Rattle.documents.specs.Reading.{Part, Refuses, AnyString, AnyEscape, AnyUnit, AnyUnitD, Each, Differs, AfterBack, AfterU, AfterD, GotString}
+use Rattle.documents.proofs.Parts.{part_none, part_one, part_more, part_then, part_front, go_at, bad_at, end_at}
+use Rattle.documents.proofs.Words.{seq_part, seq_stops}
 
 -- ---- the digits of a code unit
-pub d_end : (s : List ℕ) (i : ℕ) → i ≤ length s → length s ≤ i → Refuses AnyUnitD s i i
-d_end s i h e = record { high = h; stops = λ d g r b k. end_at (uni_d d g r b k) s i e refl }
+pub d_end : (s : List ℕ) → length s ≡ 0 → Refuses AnyUnitD s s
+d_end s e d g x b k = end_at (uni_d d g x b k) s e refl
 
-pub d_bad : (s : List ℕ) (i : ℕ) → i < length s → second_of (get_or s i 0) ≡ NoSecond → Refuses AnyUnitD s i i
-d_bad s i h e = record { high = omega arith; stops = λ d g r b k. bad_at (uni_d d g r b k) s i h (ap (λ x. step_uni_d x (get_or s i 0) d g r b k) e) }
+module _ (s r : List ℕ) (c : ℕ) (h : s ≡ c ∷ r) where
+  pub d_bad : second_of c ≡ None → Refuses AnyUnitD s s
+  d_bad e d g x b k = bad_at (uni_d d g x b k) s r c h (ap (λ y. step_uni_d y c d g x b k) e)
 
-pub d_whole : (s : List ℕ) (i q : ℕ) → i < length s → second_of (get_or s i 0) ≡ Whole → Part (Seq (Hex ∷ Hex ∷ [])) s (i + 1) q → Part AfterD s i q
-d_whole s i q h e p = part_front (Seq (Hex ∷ Hex ∷ [])) AfterD s i q h (λ t x r b f cs. c_unit_d b (get_or s i 0) cs f e x) p
+  pub d_whole : second_of c ≡ Some Whole → (q : List ℕ) → Part (Each Class fits (Hex ∷ Hex ∷ [])) r q → Part AfterD s q
+  d_whole e q p = part_front (Seq (Hex ∷ Hex ∷ [])) AfterD s r q c h (λ t y x b f cs. c_unit_d b c cs f e y) (seq_part p)
 
-pub d_whole_bad : (s : List ℕ) (i q : ℕ) → i < length s → second_of (get_or s i 0) ≡ Whole → Refuses (AnySeq (Hex ∷ Hex ∷ [])) s (i + 1) q → Refuses AnyUnitD s i q
-d_whole_bad s i q h e n =
-    let c = get_or s i 0 in
-    record { high = n.high; stops = λ d g r b k. go_at (uni_d d g r b k) (seq_go (Hex ∷ Hex ∷ []) d g r (92 ∷ 117 ∷ b ∷ c ∷ []) k) s i h (ap (λ x. step_uni_d x c d g r b k) e) ∙ n.stops d g r (92 ∷ 117 ∷ b ∷ c ∷ []) k }
+  pub d_whole_bad : second_of c ≡ Some Whole → (q : List ℕ) → Differs Class fits (Hex ∷ Hex ∷ []) r q → Refuses AnyUnitD s q
+  d_whole_bad e q f d g x b k =
+      go_at (uni_d d g x b k) (seq_go (Hex ∷ Hex ∷ []) d g x (92 ∷ 117 ∷ b ∷ c ∷ []) k) s r c h (ap (λ y. step_uni_d y c d g x b k) e)
+      ∙ seq_stops (Hex ∷ Hex ∷ []) r q f d g x (92 ∷ 117 ∷ b ∷ c ∷ []) k
 
-pub d_pair : (s : List ℕ) (i q : ℕ) → i < length s → second_of (get_or s i 0) ≡ High → Part (Seq pair_tail) s (i + 1) q → Part AfterD s i q
-d_pair s i q h e p = part_front (Seq pair_tail) AfterD s i q h (λ t x r b f cs. c_pair b (get_or s i 0) cs f e x) p
+  pub d_pair : second_of c ≡ Some High → (q : List ℕ) → Part (Each Class fits pair_tail) r q → Part AfterD s q
+  d_pair e q p = part_front (Seq pair_tail) AfterD s r q c h (λ t y x b f cs. c_pair b c cs f e y) (seq_part p)
 
-pub d_pair_bad : (s : List ℕ) (i q : ℕ) → i < length s → second_of (get_or s i 0) ≡ High → Refuses (AnySeq pair_tail) s (i + 1) q → Refuses AnyUnitD s i q
-d_pair_bad s i q h e n =
-    let c = get_or s i 0 in
-    record { high = n.high; stops = λ d g r b k. go_at (uni_d d g r b k) (seq_go pair_tail d g r (92 ∷ 117 ∷ b ∷ c ∷ []) k) s i h (ap (λ x. step_uni_d x c d g r b k) e) ∙ n.stops d g r (92 ∷ 117 ∷ b ∷ c ∷ []) k }
+  pub d_pair_bad : second_of c ≡ Some High → (q : List ℕ) → Differs Class fits pair_tail r q → Refuses AnyUnitD s q
+  d_pair_bad e q f d g x b k =
+      go_at (uni_d d g x b k) (seq_go pair_tail d g x (92 ∷ 117 ∷ b ∷ c ∷ []) k) s r c h (ap (λ y. step_uni_d y c d g x b k) e)
+      ∙ seq_stops pair_tail r q f d g x (92 ∷ 117 ∷ b ∷ c ∷ []) k
 
-pub u_end : (s : List ℕ) (i : ℕ) → i ≤ length s → length s ≤ i → Refuses AnyUnit s i i
-u_end s i h e = record { high = h; stops = λ d g r k. end_at (uni d g r k) s i e refl }
+pub u_end : (s : List ℕ) → length s ≡ 0 → Refuses AnyUnit s s
+u_end s e d g x k = end_at (uni d g x k) s e refl
 
-pub u_bad : (s : List ℕ) (i : ℕ) → i < length s → first_of (get_or s i 0) ≡ NoFirst → Refuses AnyUnit s i i
-u_bad s i h e = record { high = omega arith; stops = λ d g r k. bad_at (uni d g r k) s i h (ap (λ x. step_uni x (get_or s i 0) d g r k) e) }
+module _ (s r : List ℕ) (b : ℕ) (h : s ≡ b ∷ r) where
+  pub u_bad : first_of b ≡ None → Refuses AnyUnit s s
+  u_bad e d g x k = bad_at (uni d g x k) s r b h (ap (λ y. step_uni y b d g x k) e)
 
-pub u_other : (s : List ℕ) (i q : ℕ) → i < length s → first_of (get_or s i 0) ≡ OtherHex → Part (Seq (Hex ∷ Hex ∷ Hex ∷ [])) s (i + 1) q → Part AfterU s i q
-u_other s i q h e p = part_front (Seq (Hex ∷ Hex ∷ Hex ∷ [])) AfterU s i q h (λ t x r cs. c_unit (get_or s i 0) cs e x) p
+  pub u_other : first_of b ≡ Some OtherHex → (q : List ℕ) → Part (Each Class fits (Hex ∷ Hex ∷ Hex ∷ [])) r q → Part AfterU s q
+  u_other e q p = part_front (Seq (Hex ∷ Hex ∷ Hex ∷ [])) AfterU s r q b h (λ t y x cs. c_unit b cs e y) (seq_part p)
 
-pub u_other_bad : (s : List ℕ) (i q : ℕ) → i < length s → first_of (get_or s i 0) ≡ OtherHex → Refuses (AnySeq (Hex ∷ Hex ∷ Hex ∷ [])) s (i + 1) q → Refuses AnyUnit s i q
-u_other_bad s i q h e n =
-    let b = get_or s i 0 in
-    record { high = n.high; stops = λ d g r k. go_at (uni d g r k) (seq_go (Hex ∷ Hex ∷ Hex ∷ []) d g r (92 ∷ 117 ∷ b ∷ []) k) s i h (ap (λ x. step_uni x b d g r k) e) ∙ n.stops d g r (92 ∷ 117 ∷ b ∷ []) k }
+  pub u_other_bad : first_of b ≡ Some OtherHex → (q : List ℕ) → Differs Class fits (Hex ∷ Hex ∷ Hex ∷ []) r q → Refuses AnyUnit s q
+  u_other_bad e q f d g x k =
+      go_at (uni d g x k) (seq_go (Hex ∷ Hex ∷ Hex ∷ []) d g x (92 ∷ 117 ∷ b ∷ []) k) s r b h (ap (λ y. step_uni y b d g x k) e)
+      ∙ seq_stops (Hex ∷ Hex ∷ Hex ∷ []) r q f d g x (92 ∷ 117 ∷ b ∷ []) k
 
-pub u_d : (s : List ℕ) (i q : ℕ) → i < length s → first_of (get_or s i 0) ≡ FirstD → Part AfterD s (i + 1) q → Part AfterU s i q
-u_d s i q h e p = part_front AfterD AfterU s i q h (λ t x r cs. x r (get_or s i 0) e cs) p
+  pub u_d : first_of b ≡ Some FirstD → (q : List ℕ) → Part AfterD r q → Part AfterU s q
+  u_d e q p = part_front AfterD AfterU s r q b h (λ t y x cs. y x b e cs) p
 
-pub u_d_bad : (s : List ℕ) (i q : ℕ) → i < length s → first_of (get_or s i 0) ≡ FirstD → Refuses AnyUnitD s (i + 1) q → Refuses AnyUnit s i q
-u_d_bad s i q h e n =
-    let b = get_or s i 0 in
-    record { high = n.high; stops = λ d g r k. go_at (uni d g r k) (uni_d d g r b k) s i h (ap (λ x. step_uni x b d g r k) e) ∙ n.stops d g r b k }
+  pub u_d_bad : first_of b ≡ Some FirstD → (q : List ℕ) → Refuses AnyUnitD r q → Refuses AnyUnit s q
+  u_d_bad e q n d g x k = go_at (uni d g x k) (uni_d d g x b k) s r b h (ap (λ y. step_uni y b d g x k) e) ∙ n d g x b k
 
 -- ---- escapes
-unit_is : (b : ℕ) → escape_of b ≡ CodeUnit → b ≡ 117
+unit_is : (b : ℕ) → escape_of b ≡ Some CodeUnit → b ≡ 117
 unit_is b h = grind (arith, nat_tests)
 
-pub e_end : (s : List ℕ) (i : ℕ) → i ≤ length s → length s ≤ i → Refuses AnyEscape s i i
-e_end s i h e = record { high = h; stops = λ d g r k. end_at (esc d g r k) s i e refl }
+pub e_end : (s : List ℕ) → length s ≡ 0 → Refuses AnyEscape s s
+e_end s e d g x k = end_at (esc d g x k) s e refl
 
-pub e_bad : (s : List ℕ) (i : ℕ) → i < length s → escape_of (get_or s i 0) ≡ NoEscape → Refuses AnyEscape s i i
-e_bad s i h e = record { high = omega arith; stops = λ d g r k. bad_at (esc d g r k) s i h (ap (λ x. step_esc x (get_or s i 0) d g r k) e) }
+module _ (s r : List ℕ) (b : ℕ) (h : s ≡ b ∷ r) where
+  pub e_bad : escape_of b ≡ None → Refuses AnyEscape s s
+  e_bad e d g x k = bad_at (esc d g x k) s r b h (ap (λ y. step_esc y b d g x k) e)
 
-pub e_simple : (s : List ℕ) (i : ℕ) → i < length s → escape_of (get_or s i 0) ≡ Simple → Part AfterBack s i (i + 1)
-e_simple s i h e = part_one AfterBack s i h (λ r cs. c_escape (get_or s i 0) cs e)
+  pub e_simple : escape_of b ≡ Some Simple → Part AfterBack s r
+  e_simple e = part_one AfterBack s r b h (λ x cs. c_escape b cs e)
 
-pub e_unit : (s : List ℕ) (i q : ℕ) → i < length s → escape_of (get_or s i 0) ≡ CodeUnit → Part AfterU s (i + 1) q → Part AfterBack s i q
-e_unit s i q h e p = part_front AfterU AfterBack s i q h (λ t x r cs. subst (λ (b : ℕ). Chars (r ++ (92 ∷ b ∷ t))) (sym (unit_is (get_or s i 0) e)) (x r cs)) p
+  pub e_unit : escape_of b ≡ Some CodeUnit → (q : List ℕ) → Part AfterU r q → Part AfterBack s q
+  e_unit e q p = part_front AfterU AfterBack s r q b h (λ t y x cs. subst (λ (c : ℕ). Chars (x ++ (92 ∷ c ∷ t))) (sym (unit_is b e)) (y x cs)) p
 
-pub e_unit_bad : (s : List ℕ) (i q : ℕ) → i < length s → escape_of (get_or s i 0) ≡ CodeUnit → Refuses AnyUnit s (i + 1) q → Refuses AnyEscape s i q
-e_unit_bad s i q h e n =
-    record { high = n.high; stops = λ d g r k. go_at (esc d g r k) (uni d g r k) s i h (ap (λ x. step_esc x (get_or s i 0) d g r k) e) ∙ n.stops d g r k }
+  pub e_unit_bad : escape_of b ≡ Some CodeUnit → (q : List ℕ) → Refuses AnyUnit r q → Refuses AnyEscape s q
+  e_unit_bad e q n d g x k = go_at (esc d g x k) (uni d g x k) s r b h (ap (λ y. step_esc y b d g x k) e) ∙ n d g x k
 
 -- ---- characters
-back_is : (b : ℕ) → char_of b ≡ Back → b ≡ 92
+back_is : (b : ℕ) → char_of b ≡ Some Back → b ≡ 92
 back_is b h = grind (arith, nat_tests)
 
-end_is : (b : ℕ) → char_of b ≡ EndQuote → b ≡ 34
+end_is : (b : ℕ) → char_of b ≡ Some EndQuote → b ≡ 34
 end_is b h = grind (arith, nat_tests)
 
-pub str_at : {s : List ℕ} {a i : ℕ} (p : Part Chars s a i) (d : ℕ) (g : Role) (k : Stack) → run (chars d g [] k) (drop a s) ≡ run (chars d g p.text k) (drop i s)
-str_at {s} {a} {i} p d g k = rw p.splits (c_chars p.holds d g k (drop i s))
+pub str_at : {s r : List ℕ} (p : Part Chars s r) (d : ℕ) (g : Role) (k : Stack) → run (chars d g [] k) s ≡ run (chars d g p.text k) r
+str_at {s} {r} p d g k = rw p.splits (c_chars p.holds d g k r)
 
-module _ (s : List ℕ) (a i : ℕ) (p : Part Chars s a i) where
-  pub str_end : length s ≤ i → Refuses AnyString s a i
-  str_end h = record { high = p.high; stops = λ d g k. str_at p d g k ∙ end_at (chars d g p.text k) s i h refl }
+pub str_begin : (s : List ℕ) → Part Chars s s
+str_begin s = part_none Chars s c_none
 
-  pub str_bad : i < length s → char_of (get_or s i 0) ≡ NoChar → Refuses AnyString s a i
-  str_bad h e = record { high = p.high; stops = λ d g k. str_at p d g k ∙ bad_at (chars d g p.text k) s i h (ap (λ x. step_chars x (get_or s i 0) d g p.text k) e) }
+-- more characters behind those so far
+abbrev MoreChars : List ℕ → Type 0
+MoreChars t = (x : List ℕ) → Chars x → Chars (x ++ t)
 
-  pub str_close : i < length s → char_of (get_or s i 0) ≡ EndQuote → GotString s a i
-  str_close h e = record { part = p; inside = h; quote = end_is (get_or s i 0) e }
+module _ (s r : List ℕ) (p : Part Chars s r) where
+  str_more : (q : List ℕ) → Part MoreChars r q → Part Chars s q
+  str_more q m = part_then Chars MoreChars Chars s r q (λ t u x y. y t x) p m
 
-  pub str_escape : (q : ℕ) → i < length s → char_of (get_or s i 0) ≡ Back → Part AfterBack s (i + 1) q → Part Chars s a q
-  str_escape q h e n =
-      part_then Chars (λ t. (r : List ℕ) → Chars r → Chars (r ++ t)) Chars s a i q (λ t u x y. y t x) p
-      (part_front AfterBack (λ t. (r : List ℕ) → Chars r → Chars (r ++ t)) s i q h (λ t x r cs. subst (λ (b : ℕ). Chars (r ++ (b ∷ t))) (sym (back_is (get_or s i 0) e)) (x r cs)) n)
+  pub str_end : length r ≡ 0 → Refuses AnyString s r
+  str_end h d g k = str_at p d g k ∙ end_at (chars d g p.text k) r h refl
 
-  pub str_escape_bad : (q : ℕ) → i < length s → char_of (get_or s i 0) ≡ Back → Refuses AnyEscape s (i + 1) q → Refuses AnyString s a q
-  str_escape_bad q h e n =
-      record { high = n.high; stops = λ d g k. str_at p d g k ∙ (go_at (chars d g p.text k) (esc d g p.text k) s i h (ap (λ x. step_chars x (get_or s i 0) d g p.text k) e) ∙ n.stops d g p.text k) }
+  module _ (u : List ℕ) (b : ℕ) (h : r ≡ b ∷ u) where
+    pub str_bad : char_of b ≡ None → Refuses AnyString s r
+    str_bad e d g k = str_at p d g k ∙ bad_at (chars d g p.text k) r u b h (ap (λ y. step_chars y b d g p.text k) e)
 
-  pub str_long : (q : ℕ) (l : Lead) → i < length s → char_of (get_or s i 0) ≡ Long l → Part (Seq (behind l)) s (i + 1) q → Part Chars s a q
-  str_long q l h e n =
-      part_then Chars (λ t. (r : List ℕ) → Chars r → Chars (r ++ t)) Chars s a i q (λ t u x y. y t x) p
-      (part_front (Seq (behind l)) (λ t. (r : List ℕ) → Chars r → Chars (r ++ t)) s i q h (λ t x r cs. c_long (get_or s i 0) l cs e x) n)
+    pub str_close : char_of b ≡ Some EndQuote → GotString s u
+    str_close e = subst (λ (x : List ℕ). Part Chars s x) (h ∙ ap (λ (x : ℕ). x ∷ u) (end_is b e)) p
 
-  pub str_long_bad : (q : ℕ) (l : Lead) → i < length s → char_of (get_or s i 0) ≡ Long l → Refuses (AnySeq (behind l)) s (i + 1) q → Refuses AnyString s a q
-  str_long_bad q l h e n =
-      let b = get_or s i 0 in
-      record { high = n.high; stops = λ d g k. str_at p d g k ∙ (go_at (chars d g p.text k) (seq_go (behind l) d g p.text (b ∷ []) k) s i h (ap (λ x. step_chars x b d g p.text k) e) ∙ n.stops d g p.text (b ∷ []) k) }
+    pub str_plain : char_of b ≡ Some Plain → Part Chars s u
+    str_plain e = part_more Chars s r u b (λ t x. c_plain b x e) p h
+
+    pub str_escape : char_of b ≡ Some Back → (q : List ℕ) → Part AfterBack u q → Part Chars s q
+    str_escape e q n =
+        str_more q (part_front AfterBack MoreChars r u q b h (λ t x y cs. subst (λ (c : ℕ). Chars (y ++ (c ∷ t))) (sym (back_is b e)) (x y cs)) n)
+
+    pub str_escape_bad : char_of b ≡ Some Back → (q : List ℕ) → Refuses AnyEscape u q → Refuses AnyString s q
+    str_escape_bad e q n d g k =
+        str_at p d g k ∙ (go_at (chars d g p.text k) (esc d g p.text k) r u b h (ap (λ y. step_chars y b d g p.text k) e) ∙ n d g p.text k)
+
+    pub str_long : (l : Lead) → char_of b ≡ Some (Long l) → (cs : List Class) → cs ≡ behind l → (q : List ℕ) → Part (Each Class fits cs) u q → Part Chars s q
+    str_long l e cs z q n =
+        str_more q (part_front (Seq cs) MoreChars r u q b h (λ t x y ds. c_long b l ds e (subst (λ (w : List Class). Seq w t) z x)) (seq_part n))
+
+    pub str_long_bad : (l : Lead) → char_of b ≡ Some (Long l) → (cs : List Class) → cs ≡ behind l → (q : List ℕ) → Differs Class fits cs u q → Refuses AnyString s q
+    str_long_bad l e cs z q f d g k =
+        str_at p d g k
+        ∙ (go_at (chars d g p.text k) (seq_go cs d g p.text (b ∷ []) k) r u b h (ap (λ y. step_chars y b d g p.text k) e ∙ ap (λ (w : List Class). go (seq_go w d g p.text (b ∷ []) k)) (sym z))
+        ∙ seq_stops cs u q f d g p.text (b ∷ []) k)

@@ -1,6 +1,6 @@
--- What the readers answer of the bytes from one place to another: a part of the document that is of a given form, or the place where the automaton stops, whatever surrounds the part.
+-- What the readers answer of bytes: a part at their front that is of a given form, or the bytes before which the automaton stops, whatever surrounds the part; and what is left.
 -- Assumes nothing.
-use Rattle.std.specs.Prelude.{◌≡◌, ℕ, suc, ◌+◌, ◌<◌, ◌≤◌, false, List, [], ◌∷◌, ◌++◌, length, drop, slice_index_or}
+use Rattle.std.specs.Prelude.{◌≡◌, ℕ, suc, Bool, true, false, List, [], ◌∷◌, ◌++◌, Some}
 use Rattle.grammar.specs.Ast.{Json, Members, num, mnone, malso}
 use Rattle.grammar.specs.Grammar.{Ws, Chars, Named, Shows, ShowsMembers}
 use Rattle.grammar.specs.Machine.{Stack, in_obj, Role, St, val, first, members, member, aft, nums, chars, esc, uni, uni_d, lit, seq_go, run, stopped}
@@ -10,23 +10,43 @@ use Rattle.grammar.specs.declared.kinds.Class.{Class}
 use Rattle.grammar.specs.declared.kinds.FirstHex.TheVariants.{FirstD}
 use Rattle.grammar.specs.declared.kinds.Phase.{Phase}
 
--- The bytes of s from one place up to another have the property P.
-pub record Part (P : List ℕ → Type 0) (s : List ℕ) (from to : ℕ) : Type 0 where
+-- The bytes s begin with some that have the property P, and r is what is left behind them.
+pub record Part (P : List ℕ → Type 0) (s r : List ℕ) : Type 0 where
   pub text : List ℕ
-  pub splits : drop from s ≡ text ++ drop to s
+  pub splits : s ≡ text ++ r
   pub holds : P text
-  pub low : from ≤ to
-  pub high : to ≤ length s
 
--- Started at the one place in any of the given states, the automaton stops before the other.
-pub record Refuses (any : (St → Type 0) → Type 0) (s : List ℕ) (from to : ℕ) : Type 0 where
-  pub high : to ≤ length s
-  pub stops : any (λ m. run m (drop from s) ≡ stopped (drop to s))
+-- Started at s in any of the given states, the automaton stops before r.
+abbrev pub Refuses : ((St → Type 0) → Type 0) → List ℕ → List ℕ → Type 0
+Refuses any s r = any (λ m. run m s ≡ stopped r)
+
+-- whether white space comes
+abbrev pub blank_next : List ℕ → Bool
+blank_next [] = false
+blank_next (b ∷ u) = is_blank b
 
 -- no white space comes
 abbrev pub NoBlank : List ℕ → Type 0
-NoBlank [] = Unit {0}
-NoBlank (b ∷ u) = is_blank b ≡ false
+NoBlank s = blank_next s ≡ false
+
+-- ---- bytes that are expected one by one
+pub data Each (E : Type 0) (fits : E → ℕ → Bool) : List E → List ℕ → Type 0 where
+  e_none : Each E fits [] []
+  e_more : {es : List E} {t : List ℕ} (e : E) (b : ℕ) → fits e b ≡ true → Each E fits es t → Each E fits (e ∷ es) (b ∷ t)
+
+-- the first byte, if there is one, is not the one expected
+abbrev pub Unlike : (E : Type 0) → (E → ℕ → Bool) → E → List ℕ → Type 0
+Unlike E fits e [] = Unit {0}
+Unlike E fits e (b ∷ u) = fits e b ≡ false
+
+-- The bytes s are as expected up to r, and no further.
+pub record Differs (E : Type 0) (fits : E → ℕ → Bool) (es : List E) (s r : List ℕ) : Type 0 where
+  pub before : List E
+  pub next : E
+  pub behind : List E
+  pub is : es ≡ before ++ (next ∷ behind)
+  pub part : Part (Each E fits before) s r
+  pub unlike : Unlike E fits next r
 
 -- ---- the states in which each reader may have begun
 abbrev pub AnyValue : ℕ → (St → Type 0) → Type 0
@@ -71,45 +91,40 @@ abbrev pub AfterU : List ℕ → Type 0
 AfterU t = (r : List ℕ) → Chars r → Chars (r ++ (92 ∷ 117 ∷ t))
 
 abbrev pub AfterD : List ℕ → Type 0
-AfterD t = (r : List ℕ) (b : ℕ) → first_of b ≡ FirstD → Chars r → Chars (r ++ (92 ∷ 117 ∷ b ∷ t))
+AfterD t = (r : List ℕ) (b : ℕ) → first_of b ≡ Some FirstD → Chars r → Chars (r ++ (92 ∷ 117 ∷ b ∷ t))
 
 -- the characters of a string, and its closing quote behind them
-pub record GotString (s : List ℕ) (from to : ℕ) : Type 0 where
-  pub part : Part Chars s from to
-  pub inside : to < length s
-  pub quote : slice_index_or s to 0 ≡ 34
+abbrev pub GotString : List ℕ → List ℕ → Type 0
+GotString s r = Part Chars s (34 ∷ r)
 
 -- the rest of a number that has come to the phase p
-pub record GotNumber (p : Phase) (s : List ℕ) (from to : ℕ) : Type 0 where
-  pub part : Part (λ t. (r : List ℕ) → At p r → Number (r ++ t)) s from to
-  pub goes : (d : ℕ) (r : List ℕ) (k : Stack) → run (nums d p r k) (drop from s) ≡ run (aft d (num (r ++ part.text)) k) (drop to s)
+pub record GotNumber (p : Phase) (s r : List ℕ) : Type 0 where
+  pub part : Part (λ t. (x : List ℕ) → At p x → Number (x ++ t)) s r
+  pub goes : (d : ℕ) (x : List ℕ) (k : Stack) → run (nums d p x k) s ≡ run (aft d (num (x ++ part.text)) k) r
 
-pub record GotValue (s : List ℕ) (d from to : ℕ) : Type 0 where
+pub record GotValue (d : ℕ) (s r : List ℕ) : Type 0 where
   pub json : Json
-  pub part : Part (Shows d json) s from to
-  pub goes : (k : Stack) → run (val d k) (drop from s) ≡ run (aft d json k) (drop to s)
+  pub part : Part (Shows d json) s r
+  pub goes : (k : Stack) → run (val d k) s ≡ run (aft d json k) r
 
 -- an array, or an object, behind its opening bracket
-pub record GotArray (s : List ℕ) (d from to : ℕ) : Type 0 where
+pub record GotArray (d : ℕ) (s r : List ℕ) : Type 0 where
   pub json : Json
-  pub part : Part (λ t. Shows (suc d) json (91 ∷ t)) s from to
-  pub goes : (k : Stack) → run (first d k) (drop from s) ≡ run (aft (suc d) json k) (drop to s)
+  pub part : Part (λ t. Shows (suc d) json (91 ∷ t)) s r
+  pub goes : (k : Stack) → run (first d k) s ≡ run (aft (suc d) json k) r
 
-pub record GotObject (s : List ℕ) (d from to : ℕ) : Type 0 where
+pub record GotObject (d : ℕ) (s r : List ℕ) : Type 0 where
   pub json : Json
-  pub part : Part (λ t. Shows (suc d) json (123 ∷ t)) s from to
-  pub goes : (k : Stack) → run (members d k) (drop from s) ≡ run (aft (suc d) json k) (drop to s)
+  pub part : Part (λ t. Shows (suc d) json (123 ∷ t)) s r
+  pub goes : (k : Stack) → run (members d k) s ≡ run (aft (suc d) json k) r
 
--- a name, its colon, and white space around that; the name as it is written ends at its closing quote
+-- a name as it is written between its quotes, its colon, and white space around that
 pub data NameColon : List ℕ → List ℕ → Type 0 where
   name_colon : {n v w : List ℕ} → Chars n → Ws v → Ws w → NameColon n (34 ∷ (n ++ (34 ∷ (v ++ (58 ∷ w)))))
 
-pub record GotName (s : List ℕ) (from end to : ℕ) : Type 0 where
-  pub name : List ℕ
-  pub written : Part (λ t. t ≡ name) s (from + 1) end
-  pub part : Part (NameColon name) s from to
-  pub goes : (d : ℕ) (ms : Members) (k : Stack) → run (member d ms k) (drop from s) ≡ run (val d (in_obj ms name ∷ k)) (drop to s)
-  pub plain : NoBlank (drop to s)
+pub record GotName (s name r : List ℕ) : Type 0 where
+  pub part : Part (NameColon name) s r
+  pub goes : (d : ℕ) (ms : Members) (k : Stack) → run (member d ms k) s ≡ run (val d (in_obj ms name ∷ k)) r
 
 -- ---- an object's members so far, from behind its opening brace
 -- up to where a name is to come

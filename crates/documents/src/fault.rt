@@ -1,5 +1,7 @@
-// What is refused of a document.
+// What is refused of a document, and where.
+ghost use Rattle.std.specs.Prelude.{◌≡◌, ◌-◌, length};
 ghost use Rattle.documents.specs.Faults.{told_of_document};
+ghost use Rattle.documents.specs.declared.fault.DocumentFault.TheVariants.{Syntax};
 
 use text::{Fault, FaultReport, Layer};
 
@@ -25,5 +27,20 @@ impl Fault for DocumentFault {
             layer: Layer::Document,
             position,
         }
+    }
+}
+
+// The rest of some bytes that can be continued to a text up to here, and with the first byte of the rest no further.
+#[derive(Clone, Copy)]
+pub struct Stop<'a> {
+    pub rest: &'a [u8],
+}
+
+impl Stop<'_> {
+    // The fault of a document that ends with the rest.
+    pub fn fault_in(self, doc: &[u8]) -> DocumentFault
+        ensures { result ≡ Syntax (length doc.now - length self.entry.rest.now) }
+    {
+        DocumentFault::Syntax(doc.len().saturating_sub(self.rest.len()))
     }
 }

@@ -1,117 +1,149 @@
 // What a byte is, by the place where it is met.
-ghost use Rattle.std.specs.Prelude.{◌≡◌};
+ghost use Rattle.std.specs.Prelude.{◌≡◌, ℕ, Bool, ◌==◌};
 ghost use Rattle.grammar.specs.Numbers.{next, may_end};
-ghost use Rattle.grammar.specs.Terminals.{is_blank, start_of, char_of, escape_of, first_of, second_of, fits};
+ghost use Rattle.grammar.specs.Terminals.{is_blank, start_of, char_of, behind, escape_of, first_of, second_of, fits};
 
-use grammar::{Char, Class, Escape, FirstHex, Lead, Phase, SecondHex, Start, Turn};
+use grammar::{Char, Class, Escape, FirstHex, Lead, Phase, SecondHex, Start};
+
+// A byte behind the first of a longer character, where the first leaves it free.
+const TAIL: Class = Class::In(0x80, 63);
 
 // Whether it is white space.
-pub(crate) fn is_blank(b: u8) -> bool
+pub fn is_blank(b: u8) -> bool
     ensures { result ≡ is_blank b }
 {
-    b == b' ' || b == b'\t' || b == b'\n' || b == b'\r'
+    matches!(b, b' ' | b'\t' | b'\n' | b'\r')
 }
 
 // Where a value is expected.
-pub(crate) fn start_of(b: u8) -> Start
+pub(crate) fn start_of(b: u8) -> Option<Start>
     ensures { result ≡ start_of b }
 {
     match b {
-        b' ' | b'\t' | b'\n' | b'\r' => Start::Blank,
-        b'"' => Start::Quote,
-        b'-' => Start::Minus,
-        b'0' => Start::Zero,
-        b'1'..=b'9' => Start::Positive,
-        b'[' => Start::OpenArray,
-        b'{' => Start::OpenObject,
-        b't' => Start::LitT,
-        b'f' => Start::LitF,
-        b'n' => Start::LitN,
-        _ => Start::NoStart,
+        _ if is_blank(b) => Some(Start::Blank),
+        b'"' => Some(Start::Quote),
+        b'-' => Some(Start::Minus),
+        b'0' => Some(Start::Zero),
+        b'1'..=b'9' => Some(Start::Positive),
+        b'[' => Some(Start::OpenArray),
+        b'{' => Some(Start::OpenObject),
+        b't' => Some(Start::LitT),
+        b'f' => Some(Start::LitF),
+        b'n' => Some(Start::LitN),
+        _ => None,
     }
 }
 
 // Inside a string.
-pub(crate) fn char_of(b: u8) -> Char
+pub(crate) fn char_of(b: u8) -> Option<Char>
     ensures { result ≡ char_of b }
 {
     match b {
-        b'"' => Char::EndQuote,
-        b'\\' => Char::Back,
-        32..=127 => Char::Plain,
-        0xC2..=0xDF => Char::Long(Lead::Two),
-        0xE0 => Char::Long(Lead::ThreeE0),
-        0xE1..=0xEC => Char::Long(Lead::Three),
-        0xED => Char::Long(Lead::ThreeED),
-        0xEE..=0xEF => Char::Long(Lead::Three),
-        0xF0 => Char::Long(Lead::FourF0),
-        0xF1..=0xF3 => Char::Long(Lead::Four),
-        0xF4 => Char::Long(Lead::FourF4),
-        _ => Char::NoChar,
+        b'"' => Some(Char::EndQuote),
+        b'\\' => Some(Char::Back),
+        32..=127 => Some(Char::Plain),
+        0xC2..=0xDF => Some(Char::Long(Lead::Two)),
+        0xE0 => Some(Char::Long(Lead::ThreeE0)),
+        0xE1..=0xEC | 0xEE..=0xEF => Some(Char::Long(Lead::Three)),
+        0xED => Some(Char::Long(Lead::ThreeED)),
+        0xF0 => Some(Char::Long(Lead::FourF0)),
+        0xF1..=0xF3 => Some(Char::Long(Lead::Four)),
+        0xF4 => Some(Char::Long(Lead::FourF4)),
+        _ => None,
     }
 }
 
 // Behind a backslash.
-pub(crate) fn escape_of(b: u8) -> Escape
+pub(crate) fn escape_of(b: u8) -> Option<Escape>
     ensures { result ≡ escape_of b }
 {
     match b as char {
-        '"' | '\\' | '/' | 'b' | 'f' | 'n' | 'r' | 't' => Escape::Simple,
-        'u' => Escape::CodeUnit,
-        _ => Escape::NoEscape,
+        '"' | '\\' | '/' | 'b' | 'f' | 'n' | 'r' | 't' => Some(Escape::Simple),
+        'u' => Some(Escape::CodeUnit),
+        _ => None,
     }
 }
 
 // The first digit of a code unit.
-pub(crate) fn first_of(b: u8) -> FirstHex
+pub(crate) fn first_of(b: u8) -> Option<FirstHex>
     ensures { result ≡ first_of b }
 {
     match b {
-        b'D' | b'd' => FirstHex::FirstD,
-        b'0'..=b'9' | b'A'..=b'F' | b'a'..=b'f' => FirstHex::OtherHex,
-        _ => FirstHex::NoFirst,
+        b'D' | b'd' => Some(FirstHex::FirstD),
+        _ if b.is_ascii_hexdigit() => Some(FirstHex::OtherHex),
+        _ => None,
     }
 }
 
 // The second digit of a code unit that begins with `D`.
-pub(crate) fn second_of(b: u8) -> SecondHex
+pub(crate) fn second_of(b: u8) -> Option<SecondHex>
     ensures { result ≡ second_of b }
 {
     match b {
-        b'0'..=b'7' => SecondHex::Whole,
-        b'8' | b'9' | b'A' | b'B' | b'a' | b'b' => SecondHex::High,
-        _ => SecondHex::NoSecond,
+        b'0'..=b'7' => Some(SecondHex::Whole),
+        b'8' | b'9' | b'A' | b'B' | b'a' | b'b' => Some(SecondHex::High),
+        _ => None,
     }
 }
 
-// Whether it may stand where the class is asked for.
-pub(crate) fn fits_class(class: Class, b: u8) -> bool
-    ensures { result ≡ fits class b }
+// The classes of the bytes behind the first one of a longer character.
+pub(crate) fn behind(lead: Lead) -> &'static [Class]
+    ensures { result.now ≡ behind lead }
 {
-    match class {
-        Class::In(low, more) => low <= b && b - low <= more,
-        Class::Hex => matches!(b, b'0'..=b'9' | b'A'..=b'F' | b'a'..=b'f'),
-        Class::IsD => b == b'D' || b == b'd',
-        Class::CtoF => matches!(b, b'C'..=b'F' | b'c'..=b'f'),
+    match lead {
+        Lead::Two => &[TAIL],
+        Lead::ThreeE0 => &[Class::In(0xA0, 31), TAIL],
+        Lead::Three => &[TAIL, TAIL],
+        Lead::ThreeED => &[Class::In(0x80, 31), TAIL],
+        Lead::FourF0 => &[Class::In(0x90, 47), TAIL, TAIL],
+        Lead::Four => &[TAIL, TAIL, TAIL],
+        Lead::FourF4 => &[Class::In(0x80, 15), TAIL, TAIL],
     }
 }
 
-// What it does to a number that has come so far.
-pub(crate) fn next_phase(phase: Phase, b: u8) -> Turn
+// What a byte can be measured by: another byte, or a class of bytes.
+pub(crate) trait Expected: Copy {
+    ghost meets: { Self → ℕ → Bool };
+
+    fn is_met_by(self, b: u8) -> bool
+        ensures { result ≡ meets self b };
+}
+
+impl Expected for u8 {
+    ghost meets = { λ c b. b == c };
+
+    fn is_met_by(self, b: u8) -> bool {
+        b == self
+    }
+}
+
+impl Expected for Class {
+    ghost meets = { fits };
+
+    fn is_met_by(self, b: u8) -> bool {
+        match self {
+            Class::In(low, more) => low <= b && b - low <= more,
+            Class::Hex => b.is_ascii_hexdigit(),
+            Class::IsD => b == b'D' || b == b'd',
+            Class::CtoF => matches!(b, b'C'..=b'F' | b'c'..=b'f'),
+        }
+    }
+}
+
+// The phase of a number that has come so far and goes on with it.
+pub(crate) fn next_phase(phase: Phase, b: u8) -> Option<Phase>
     ensures { result ≡ next phase b }
 {
     match (phase, b) {
-        (Phase::AtMinus, b'0') => Turn::To(Phase::AtZero),
-        (Phase::AtMinus | Phase::AtWhole, b'1'..=b'9') => Turn::To(Phase::AtWhole),
-        (Phase::AtWhole, b'0') => Turn::To(Phase::AtWhole),
-        (Phase::AtZero | Phase::AtWhole, b'.') => Turn::To(Phase::AtPoint),
-        (Phase::AtPoint | Phase::AtFraction, b'0'..=b'9') => Turn::To(Phase::AtFraction),
-        (Phase::AtZero | Phase::AtWhole | Phase::AtFraction, b'e' | b'E') => Turn::To(Phase::AtE),
-        (Phase::AtE, b'+' | b'-') => Turn::To(Phase::AtSign),
-        (Phase::AtE | Phase::AtSign | Phase::AtExponent, b'0'..=b'9') => Turn::To(
-            Phase::AtExponent,
-        ),
-        _ => Turn::Stop,
+        (Phase::AtMinus, b'0') => Some(Phase::AtZero),
+        (Phase::AtMinus | Phase::AtWhole, b'1'..=b'9') => Some(Phase::AtWhole),
+        (Phase::AtWhole, b'0') => Some(Phase::AtWhole),
+        (Phase::AtZero | Phase::AtWhole, b'.') => Some(Phase::AtPoint),
+        (Phase::AtPoint | Phase::AtFraction, b'0'..=b'9') => Some(Phase::AtFraction),
+        (Phase::AtZero | Phase::AtWhole | Phase::AtFraction, b'e' | b'E') => Some(Phase::AtE),
+        (Phase::AtE, b'+' | b'-') => Some(Phase::AtSign),
+        (Phase::AtE | Phase::AtSign | Phase::AtExponent, b'0'..=b'9') => Some(Phase::AtExponent),
+        _ => None,
     }
 }
 
@@ -119,8 +151,8 @@ pub(crate) fn next_phase(phase: Phase, b: u8) -> Turn
 pub(crate) fn may_end(phase: Phase) -> bool
     ensures { result ≡ may_end phase }
 {
-    match phase {
-        Phase::AtZero | Phase::AtWhole | Phase::AtFraction | Phase::AtExponent => true,
-        Phase::AtMinus | Phase::AtPoint | Phase::AtE | Phase::AtSign => false,
-    }
+    matches!(
+        phase,
+        Phase::AtZero | Phase::AtWhole | Phase::AtFraction | Phase::AtExponent
+    )
 }

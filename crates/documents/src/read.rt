@@ -1,142 +1,96 @@
 // Past values, arrays and objects, and whole documents. Nesting is the only recursion, and it is counted down.
-ghost use Rattle.std.specs.Prelude.{◌≡◌, ℕ, ◌<◌, ◌≤◌, length, drop, MatchResult};
+ghost use Rattle.std.specs.Prelude.{◌≡◌, MatchResult};
 ghost use Rattle.grammar.specs.Grammar.{Text};
 ghost use Rattle.documents.specs.Faults.{FaultOf};
-ghost use Rattle.documents.specs.Reading.{Refuses, NoBlank, AnyValue, AnyArray, AnyObject, AnyName, GotValue, GotArray, GotObject, GotName};
+ghost use Rattle.documents.specs.Reading.{Refuses, AnyValue, AnyArray, AnyObject, AnyName, GotValue, GotArray, GotObject, GotName};
 
-use crate::fault::DocumentFault;
+use crate::bare::Bare;
+use crate::fault::{DocumentFault, Stop};
 use crate::kinds::start_of;
-use crate::scan::{blanks, chars, number, word};
+use crate::scan::{blanks, chars, follow, number};
 use grammar::{Phase, Start};
 
 // How deep arrays and objects may nest.
 const DEPTH: u8 = 64;
 
-// A member's name: the place of its closing quote, and that of the member's value.
+// A member's name as it is written between its quotes, and the bytes from the member's value on.
 #[derive(Clone, Copy)]
-pub struct NamePlace {
-    pub end: usize,
-    pub value: usize,
+pub struct Named<'a> {
+    pub name: &'a [u8],
+    pub value: Bare<'a>,
 }
 
 // Past a member's name, its colon and the white space behind that.
-pub fn name(doc: &[u8], at: usize) -> Result<NamePlace, usize>
-    requires { (at ≤ length doc.now) × (NoBlank (drop at doc.now)) }
-    ensures { MatchResult result (λ p. GotName doc.now at p.end p.value) (λ q. Refuses AnyName doc.now at q) }
+pub fn name<'a>(start: Bare<'a>) -> Result<Named<'a>, Stop<'a>>
+    ensures { MatchResult result (λ n. GotName start.entry.bytes.now n.name.now n.value.bytes.now) (λ stop. Refuses AnyName start.entry.bytes.now stop.rest.now) }
 {
-    if at >= doc.len() {
-        return Err(at);
-    }
-    if doc[at] != b'"' {
-        return Err(at);
-    }
-    let end = chars(doc, at + 1)?;
-    let colon = blanks(doc, end + 1);
-    if colon >= doc.len() {
-        return Err(colon);
-    }
-    if doc[colon] != b':' {
-        return Err(colon);
-    }
-    let value = blanks(doc, colon + 1);
-    Ok(NamePlace { end, value })
+    let quoted = follow(start.bytes, b"\"")?;
+    let behind = chars(quoted)?;
+    let value = follow(blanks(behind).bytes, b":")?;
+    Ok(Named {
+        name: &quoted[..quoted.len() - behind.len() - 1],
+        value: blanks(value),
+    })
 }
 
 // Past a value that begins here.
 #[cycle(array_object_value)]
-pub fn value(doc: &[u8], at: usize, depth: u8) -> Result<usize, usize>
-    requires { (at ≤ length doc.now) × (NoBlank (drop at doc.now)) }
-    ensures { MatchResult result (λ q. GotValue doc.now depth at q) (λ q. Refuses (AnyValue depth) doc.now at q) }
+pub fn value<'a>(start: Bare<'a>, depth: u8) -> Result<&'a [u8], Stop<'a>>
+    ensures { MatchResult result (λ r. GotValue depth start.entry.bytes.now r.now) (λ stop. Refuses (AnyValue depth) start.entry.bytes.now stop.rest.now) }
 {
-    if at >= doc.len() {
-        return Err(at);
-    }
-    match start_of(doc[at]) {
-        Start::Quote => {
-            let end = chars(doc, at + 1)?;
-            Ok(end + 1)
-        }
-        Start::Minus => number(doc, at + 1, Phase::AtMinus),
-        Start::Zero => number(doc, at + 1, Phase::AtZero),
-        Start::Positive => number(doc, at + 1, Phase::AtWhole),
-        Start::OpenArray => {
-            if depth == 0 {
-                return Err(at);
-            }
-            array(doc, at + 1, depth - 1)
-        }
-        Start::OpenObject => {
-            if depth == 0 {
-                return Err(at);
-            }
-            object(doc, at + 1, depth - 1)
-        }
-        Start::LitT => word(doc, at + 1, b"rue"),
-        Start::LitF => word(doc, at + 1, b"alse"),
-        Start::LitN => word(doc, at + 1, b"ull"),
-        Start::Blank => Err(at),
-        Start::NoStart => Err(at),
+    let stop = Stop { rest: start.bytes };
+    let Some((b, tail)) = start.bytes.split_first() else {
+        return Err(stop);
+    };
+    match start_of(*b) {
+        Some(Start::Quote) => chars(tail),
+        Some(Start::Minus) => number(tail, Phase::AtMinus),
+        Some(Start::Zero) => number(tail, Phase::AtZero),
+        Some(Start::Positive) => number(tail, Phase::AtWhole),
+        Some(Start::OpenArray) if depth > 0 => array(tail, depth - 1),
+        Some(Start::OpenObject) if depth > 0 => object(tail, depth - 1),
+        Some(Start::LitT) => follow(tail, b"rue"),
+        Some(Start::LitF) => follow(tail, b"alse"),
+        Some(Start::LitN) => follow(tail, b"ull"),
+        Some(Start::OpenArray | Start::OpenObject | Start::Blank) | None => Err(stop),
     }
 }
 
 // From behind an array's opening bracket to behind its closing one.
 #[cycle(array_object_value)]
-fn array(doc: &[u8], at: usize, depth: u8) -> Result<usize, usize>
-    requires { at ≤ length doc.now }
-    ensures { MatchResult result (λ q. GotArray doc.now depth at q) (λ q. Refuses (AnyArray depth) doc.now at q) }
+fn array(bytes: &[u8], depth: u8) -> Result<&[u8], Stop<'_>>
+    ensures { MatchResult result (λ r. GotArray depth bytes.now r.now) (λ stop. Refuses (AnyArray depth) bytes.now stop.rest.now) }
 {
-    let mut i = blanks(doc, at);
-    if i >= doc.len() {
-        return Err(i);
-    }
-    if doc[i] == b']' {
-        return Ok(i + 1);
+    let mut item = blanks(bytes);
+    if let Some(rest) = item.bytes.strip_prefix(b"]") {
+        return Ok(rest);
     }
     loop {
-        let end = value(doc, i, depth)?;
-        let next = blanks(doc, end);
-        if next >= doc.len() {
-            return Err(next);
+        let end = blanks(value(item, depth)?);
+        if let Some(rest) = end.bytes.strip_prefix(b"]") {
+            return Ok(rest);
         }
-        let b = doc[next];
-        if b == b']' {
-            return Ok(next + 1);
-        }
-        if b != b',' {
-            return Err(next);
-        }
-        i = blanks(doc, next + 1);
+        item = blanks(follow(end.bytes, b",")?);
     }
 }
 
 // From behind an object's opening brace to behind its closing one.
+// Kept: beside `array`, since one loop for both would take the closing byte and a closure for the element, and be no shorter.
 #[cycle(array_object_value)]
-fn object(doc: &[u8], at: usize, depth: u8) -> Result<usize, usize>
-    requires { at ≤ length doc.now }
-    ensures { MatchResult result (λ q. GotObject doc.now depth at q) (λ q. Refuses (AnyObject depth) doc.now at q) }
+fn object(bytes: &[u8], depth: u8) -> Result<&[u8], Stop<'_>>
+    ensures { MatchResult result (λ r. GotObject depth bytes.now r.now) (λ stop. Refuses (AnyObject depth) bytes.now stop.rest.now) }
 {
-    let mut i = blanks(doc, at);
-    if i >= doc.len() {
-        return Err(i);
-    }
-    if doc[i] == b'}' {
-        return Ok(i + 1);
+    let mut member = blanks(bytes);
+    if let Some(rest) = member.bytes.strip_prefix(b"}") {
+        return Ok(rest);
     }
     loop {
-        let start = name(doc, i)?;
-        let end = value(doc, start.value, depth)?;
-        let next = blanks(doc, end);
-        if next >= doc.len() {
-            return Err(next);
+        let named = name(member)?;
+        let end = blanks(value(named.value, depth)?);
+        if let Some(rest) = end.bytes.strip_prefix(b"}") {
+            return Ok(rest);
         }
-        let b = doc[next];
-        if b == b'}' {
-            return Ok(next + 1);
-        }
-        if b != b',' {
-            return Err(next);
-        }
-        i = blanks(doc, next + 1);
+        member = blanks(follow(end.bytes, b",")?);
     }
 }
 
@@ -144,15 +98,13 @@ fn object(doc: &[u8], at: usize, depth: u8) -> Result<usize, usize>
 pub fn document(doc: &[u8]) -> Result<(), DocumentFault>
     ensures { MatchResult result (λ _. Text doc.now) (λ f. FaultOf doc.now f) }
 {
-    let start = blanks(doc, 0);
-    match value(doc, start, DEPTH) {
-        Err(at) => Err(DocumentFault::Syntax(at)),
-        Ok(end) => {
-            let stop = blanks(doc, end);
-            if stop < doc.len() {
-                return Err(DocumentFault::Syntax(stop));
-            }
-            Ok(())
-        }
+    let behind = value(blanks(doc), DEPTH).map_err(|stop| stop.fault_in(doc))?;
+    let stop = Stop {
+        rest: blanks(behind).bytes,
+    };
+    if stop.rest.is_empty() {
+        Ok(())
+    } else {
+        Err(stop.fault_in(doc))
     }
 }

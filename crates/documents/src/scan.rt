@@ -1,185 +1,127 @@
-// Past white space, literals, numbers and strings. Each reader answers where its part ends, or how far the bytes can be continued to a text.
-ghost use Rattle.std.specs.Prelude.{◌≡◌, ℕ, ◌<◌, ◌≤◌, length, drop, if◌then◌else◌, Ok, Err, MatchResult};
-ghost use Rattle.grammar.specs.Grammar.{Ws, Seq};
-ghost use Rattle.grammar.specs.Numbers.{may_end};
-ghost use Rattle.grammar.specs.Terminals.{behind};
-ghost use Rattle.documents.specs.Reading.{Part, Refuses, NoBlank, AnyWord, AnyNumber, AnyString, AnyEscape, AnyUnit, AnyUnitD, AnySeq, AfterBack, AfterU, AfterD, GotString, GotNumber};
+// Past white space, literals, numbers and strings. Each reader answers what is left behind its part, or the rest with which the bytes are no start of a text.
+ghost use Rattle.std.specs.Prelude.{◌≡◌, MatchResult};
+ghost use Rattle.grammar.specs.Grammar.{Ws};
+ghost use Rattle.documents.specs.Reading.{Part, Refuses, AnyNumber, AnyString, AnyEscape, AnyUnit, AnyUnitD, Each, Differs, AfterBack, AfterU, AfterD, GotString, GotNumber};
 
+use crate::bare::Bare;
+use crate::fault::Stop;
 use crate::kinds::{
-    char_of, escape_of, first_of, fits_class, is_blank, may_end, next_phase, second_of,
+    Expected, behind, char_of, escape_of, first_of, is_blank, may_end, next_phase, second_of,
 };
-use grammar::{Char, Class, Escape, FirstHex, Lead, Phase, SecondHex, Turn};
+use grammar::{Char, Class, Escape, FirstHex, Phase, SecondHex};
 
 // Past the white space.
-pub fn blanks(doc: &[u8], at: usize) -> usize
-    requires { at ≤ length doc.now }
-    ensures part { Part Ws doc.now at result }
-    ensures stop { NoBlank (drop result doc.now) }
+pub fn blanks(bytes: &[u8]) -> Bare<'_>
+    ensures { Part Ws bytes.now result.bytes.now }
 {
-    let mut i = at;
-    while i < doc.len() {
-        let b = doc[i];
-        if !is_blank(b) {
-            return i;
-        }
-        i += 1;
-    }
-    i
+    let n = bytes
+        .iter()
+        .position(|b| !is_blank(*b))
+        .unwrap_or(bytes.len());
+    Bare { bytes: &bytes[n..] }
 }
 
-// Past the given bytes.
-pub(crate) fn word(doc: &[u8], at: usize, rest: &[u8]) -> Result<usize, usize>
-    requires { at ≤ length doc.now }
-    ensures { MatchResult result (λ q. Part (λ t. t ≡ rest.now) doc.now at q) (λ q. Refuses (AnyWord rest.now) doc.now at q) }
+// Past bytes that are each as expected.
+pub(crate) fn follow<'a, E: Expected>(bytes: &'a [u8], expected: &[E]) -> Result<&'a [u8], Stop<'a>>
+    ensures { MatchResult result (λ r. Part (Each E E.meets expected.now) bytes.now r.now) (λ stop. Differs E E.meets expected.now bytes.now stop.rest.now) }
 {
-    let mut i = at;
-    for c in rest {
-        if i >= doc.len() {
-            return Err(i);
+    let mut rest = bytes;
+    for e in expected {
+        match rest.split_first() {
+            Some((b, tail)) if e.is_met_by(*b) => rest = tail,
+            _ => return Err(Stop { rest }),
         }
-        if doc[i] != *c {
-            return Err(i);
-        }
-        i += 1;
     }
-    Ok(i)
-}
-
-// A number's end, if it may end so.
-fn ended(phase: Phase, at: usize) -> Result<usize, usize>
-    ensures { result ≡ (if may_end phase then Ok at else Err at) }
-{
-    if may_end(phase) { Ok(at) } else { Err(at) }
+    Ok(rest)
 }
 
 // Past the rest of a number that has come to the phase.
-pub(crate) fn number(doc: &[u8], at: usize, from: Phase) -> Result<usize, usize>
-    requires { at ≤ length doc.now }
-    ensures { MatchResult result (λ q. GotNumber from doc.now at q) (λ q. Refuses (AnyNumber from) doc.now at q) }
+pub(crate) fn number(bytes: &[u8], from: Phase) -> Result<&[u8], Stop<'_>>
+    ensures { MatchResult result (λ r. GotNumber from bytes.now r.now) (λ stop. Refuses (AnyNumber from) bytes.now stop.rest.now) }
 {
-    let mut i = at;
+    let mut rest = bytes;
     let mut phase = from;
-    while i < doc.len() {
-        match next_phase(phase, doc[i]) {
-            Turn::Stop => return ended(phase, i),
-            Turn::To(p) => {
-                phase = p;
-                i += 1;
-            }
-        }
+    while let Some((b, tail)) = rest.split_first() {
+        let Some(next) = next_phase(phase, *b) else {
+            break;
+        };
+        phase = next;
+        rest = tail;
     }
-    ended(phase, i)
-}
-
-// Past bytes of the given classes, one of each.
-fn follow(doc: &[u8], at: usize, classes: &[Class]) -> Result<usize, usize>
-    requires { at ≤ length doc.now }
-    ensures { MatchResult result (λ q. Part (Seq classes.now) doc.now at q) (λ q. Refuses (AnySeq classes.now) doc.now at q) }
-{
-    let mut i = at;
-    for c in classes {
-        if i >= doc.len() {
-            return Err(i);
-        }
-        if !fits_class(*c, doc[i]) {
-            return Err(i);
-        }
-        i += 1;
-    }
-    Ok(i)
-}
-
-// A byte behind the first where the first leaves it free.
-const TAIL: Class = Class::In(0x80, 63);
-
-// Past the bytes behind the first one of a longer character.
-fn long(doc: &[u8], at: usize, lead: Lead) -> Result<usize, usize>
-    requires { at ≤ length doc.now }
-    ensures { MatchResult result (λ q. Part (Seq (behind lead)) doc.now at q) (λ q. Refuses (AnySeq (behind lead)) doc.now at q) }
-{
-    match lead {
-        Lead::Two => follow(doc, at, &[TAIL]),
-        Lead::ThreeE0 => follow(doc, at, &[Class::In(0xA0, 31), TAIL]),
-        Lead::Three => follow(doc, at, &[TAIL, TAIL]),
-        Lead::ThreeED => follow(doc, at, &[Class::In(0x80, 31), TAIL]),
-        Lead::FourF0 => follow(doc, at, &[Class::In(0x90, 47), TAIL, TAIL]),
-        Lead::Four => follow(doc, at, &[TAIL, TAIL, TAIL]),
-        Lead::FourF4 => follow(doc, at, &[Class::In(0x80, 15), TAIL, TAIL]),
+    if may_end(phase) {
+        Ok(rest)
+    } else {
+        Err(Stop { rest })
     }
 }
+
+// Behind the first two digits of a pair of surrogates: two digits, `\u`, and the digits of the second, from DC00 to DFFF.
+const PAIR_TAIL: [Class; 8] = [
+    Class::Hex,
+    Class::Hex,
+    Class::In(b'\\', 0),
+    Class::In(b'u', 0),
+    Class::IsD,
+    Class::CtoF,
+    Class::Hex,
+    Class::Hex,
+];
 
 // Past the rest of a code unit that begins with `D`, and of a pair of surrogates.
-fn unit_d(doc: &[u8], at: usize) -> Result<usize, usize>
-    requires { at ≤ length doc.now }
-    ensures { MatchResult result (λ q. Part AfterD doc.now at q) (λ q. Refuses AnyUnitD doc.now at q) }
+fn unit_d(bytes: &[u8]) -> Result<&[u8], Stop<'_>>
+    ensures { MatchResult result (λ r. Part AfterD bytes.now r.now) (λ stop. Refuses AnyUnitD bytes.now stop.rest.now) }
 {
-    if at >= doc.len() {
-        return Err(at);
-    }
-    match second_of(doc[at]) {
-        SecondHex::Whole => follow(doc, at + 1, &[Class::Hex, Class::Hex]),
-        SecondHex::High => follow(
-            doc,
-            at + 1,
-            &[
-                Class::Hex,
-                Class::Hex,
-                Class::In(b'\\', 0),
-                Class::In(b'u', 0),
-                Class::IsD,
-                Class::CtoF,
-                Class::Hex,
-                Class::Hex,
-            ],
-        ),
-        SecondHex::NoSecond => Err(at),
+    let Some((b, tail)) = bytes.split_first() else {
+        return Err(Stop { rest: bytes });
+    };
+    match second_of(*b) {
+        Some(SecondHex::Whole) => follow(tail, &[Class::Hex, Class::Hex]),
+        Some(SecondHex::High) => follow(tail, &PAIR_TAIL),
+        None => Err(Stop { rest: bytes }),
     }
 }
 
 // Past the digits of a code unit, and the other one of a pair of surrogates.
-fn unit(doc: &[u8], at: usize) -> Result<usize, usize>
-    requires { at ≤ length doc.now }
-    ensures { MatchResult result (λ q. Part AfterU doc.now at q) (λ q. Refuses AnyUnit doc.now at q) }
+fn unit(bytes: &[u8]) -> Result<&[u8], Stop<'_>>
+    ensures { MatchResult result (λ r. Part AfterU bytes.now r.now) (λ stop. Refuses AnyUnit bytes.now stop.rest.now) }
 {
-    if at >= doc.len() {
-        return Err(at);
-    }
-    match first_of(doc[at]) {
-        FirstHex::FirstD => unit_d(doc, at + 1),
-        FirstHex::OtherHex => follow(doc, at + 1, &[Class::Hex, Class::Hex, Class::Hex]),
-        FirstHex::NoFirst => Err(at),
+    let Some((b, tail)) = bytes.split_first() else {
+        return Err(Stop { rest: bytes });
+    };
+    match first_of(*b) {
+        Some(FirstHex::FirstD) => unit_d(tail),
+        Some(FirstHex::OtherHex) => follow(tail, &[Class::Hex, Class::Hex, Class::Hex]),
+        None => Err(Stop { rest: bytes }),
     }
 }
 
 // Past an escape, from behind its backslash.
-fn escape(doc: &[u8], at: usize) -> Result<usize, usize>
-    requires { at ≤ length doc.now }
-    ensures { MatchResult result (λ q. Part AfterBack doc.now at q) (λ q. Refuses AnyEscape doc.now at q) }
+fn escape(bytes: &[u8]) -> Result<&[u8], Stop<'_>>
+    ensures { MatchResult result (λ r. Part AfterBack bytes.now r.now) (λ stop. Refuses AnyEscape bytes.now stop.rest.now) }
 {
-    if at >= doc.len() {
-        return Err(at);
-    }
-    match escape_of(doc[at]) {
-        Escape::Simple => Ok(at + 1),
-        Escape::CodeUnit => unit(doc, at + 1),
-        Escape::NoEscape => Err(at),
+    let Some((b, tail)) = bytes.split_first() else {
+        return Err(Stop { rest: bytes });
+    };
+    match escape_of(*b) {
+        Some(Escape::Simple) => Ok(tail),
+        Some(Escape::CodeUnit) => unit(tail),
+        None => Err(Stop { rest: bytes }),
     }
 }
 
-// From behind a string's opening quote to its closing one.
-pub(crate) fn chars(doc: &[u8], at: usize) -> Result<usize, usize>
-    requires { at ≤ length doc.now }
-    ensures { MatchResult result (λ q. GotString doc.now at q) (λ q. Refuses AnyString doc.now at q) }
+// From behind a string's opening quote to behind its closing one.
+pub(crate) fn chars(bytes: &[u8]) -> Result<&[u8], Stop<'_>>
+    ensures { MatchResult result (λ r. GotString bytes.now r.now) (λ stop. Refuses AnyString bytes.now stop.rest.now) }
 {
-    let mut i = at;
-    while i < doc.len() {
-        match char_of(doc[i]) {
-            Char::EndQuote => return Ok(i),
-            Char::NoChar => return Err(i),
-            Char::Plain => i += 1,
-            Char::Back => i = escape(doc, i + 1)?,
-            Char::Long(lead) => i = long(doc, i + 1, lead)?,
+    let mut rest = bytes;
+    while let Some((b, tail)) = rest.split_first() {
+        match char_of(*b) {
+            Some(Char::EndQuote) => return Ok(tail),
+            Some(Char::Plain) => rest = tail,
+            Some(Char::Back) => rest = escape(tail)?,
+            Some(Char::Long(lead)) => rest = follow(tail, behind(lead))?,
+            None => return Err(Stop { rest }),
         }
     }
-    Err(i)
+    Err(Stop { rest })
 }

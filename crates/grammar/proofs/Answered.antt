@@ -20,27 +20,27 @@ rest_turn bad b t r f e = let h : b ∷ t ≡ r = cc in omega (arith, ap length 
 rest_turn (go m) b t r f e = omega (arith, f m e)
 
 rest_nums : (z : Bool) (n : List ℕ) (k : Stack) (r : List ℕ) → finish_nums z n k ≡ stuck r → length r ≤ 0
-rest_nums true n [] r e = let z : ◌≡◌ {A = ℕ} 0 1 = cc in omega arith
-rest_nums true n (f ∷ k) r e = let z : ◌≡◌ {A = ℕ} 0 1 = cc in omega arith
-rest_nums false n k r e = let z : ◌≡◌ {A = ℕ} 0 1 = cc in omega arith
+rest_nums true n [] r e = grind arith
+rest_nums true n (f ∷ k) r e = grind arith
+rest_nums false n k r e = grind arith
 
 rest_end : (s : St) (r : List ℕ) → finish s ≡ stuck r → length r ≤ 0
-rest_end (val d k) r e = let z : ◌≡◌ {A = ℕ} 0 1 = cc in omega arith
-rest_end (first d k) r e = let z : ◌≡◌ {A = ℕ} 0 1 = cc in omega arith
-rest_end (members d k) r e = let z : ◌≡◌ {A = ℕ} 0 1 = cc in omega arith
-rest_end (member d ms k) r e = let z : ◌≡◌ {A = ℕ} 0 1 = cc in omega arith
-rest_end (colon d ms n k) r e = let z : ◌≡◌ {A = ℕ} 0 1 = cc in omega arith
-rest_end (aft d j []) r e = let z : ◌≡◌ {A = ℕ} 0 1 = cc in omega arith
-rest_end (aft d j (f ∷ k)) r e = let z : ◌≡◌ {A = ℕ} 0 1 = cc in omega arith
+rest_end (val d k) r e = grind arith
+rest_end (first d k) r e = grind arith
+rest_end (members d k) r e = grind arith
+rest_end (member d ms k) r e = grind arith
+rest_end (colon d ms n k) r e = grind arith
+rest_end (aft d j []) r e = grind arith
+rest_end (aft d j (f ∷ k)) r e = grind arith
 rest_end (nums d p n k) r e = rest_nums (may_end p) n k r e
-rest_end (chars d g n k) r e = let z : ◌≡◌ {A = ℕ} 0 1 = cc in omega arith
-rest_end (esc d g n k) r e = let z : ◌≡◌ {A = ℕ} 0 1 = cc in omega arith
-rest_end (uni d g n k) r e = let z : ◌≡◌ {A = ℕ} 0 1 = cc in omega arith
-rest_end (uni_d d g n b k) r e = let z : ◌≡◌ {A = ℕ} 0 1 = cc in omega arith
-rest_end (seq d g n a c cs k) r e = let z : ◌≡◌ {A = ℕ} 0 1 = cc in omega arith
-rest_end (lit d l j k) r e = let z : ◌≡◌ {A = ℕ} 0 1 = cc in omega arith
+rest_end (chars d g n k) r e = grind arith
+rest_end (esc d g n k) r e = grind arith
+rest_end (uni d g n k) r e = grind arith
+rest_end (uni_d d g n b k) r e = grind arith
+rest_end (seq d g n a c cs k) r e = grind arith
+rest_end (lit d l j k) r e = grind arith
 
-rest_run : (t : List ℕ) (s : St) (r : List ℕ) → run s t ≡ stuck r → length r ≤ length t
+pub rest_run : (t : List ℕ) (s : St) (r : List ℕ) → run s t ≡ stuck r → length r ≤ length t
 rest_run [] s r e = rest_end s r e
 rest_run (b ∷ t) s r e = rest_turn (step s b) b t r (λ m h. rest_run t m r h) e
 
@@ -64,8 +64,7 @@ pub no_more : (p : List ℕ) (b : ℕ) (r : List ℕ) → parse (p ++ (b ∷ r))
 no_more p b r e v =
     let h : parse (p ++ (b ∷ v.0)) ≡ done v.1.0 = reads _ _ (rw append_assoc at v.1.1) in
     let g : parse (p ++ (b ∷ v.0)) ≡ stuck (b ∷ v.0) = local p (val 64 []) b r v.0 e in
-    let z : ◌≡◌ {A = ℕ} 0 1 = cc in
-    omega arith
+    grind arith
 
 -- what the automaton has read, and where it stops
 abbrev Read : List ℕ → List ℕ → Out → Type 0
@@ -115,7 +114,7 @@ says_of s (done j) e h = h
 says_of s open_end e h = (h, λ x. never s x e)
   where
     never : (s : List ℕ) → Text s → parse s ≡ open_end → ⊥
-    never s x e = let g : parse s ≡ done x.0 = reads s x.0 x.1 in let z : ◌≡◌ {A = ℕ} 0 1 = cc in omega arith
+    never s x e = let g : parse s ≡ done x.0 = reads s x.0 x.1 in grind arith
 says_of s (stuck r) e h = (h.0, record { splits = h.1; starts = h.2; ends = λ b t q v. no_more h.0 b t (subst (λ (x : List ℕ). parse (h.0 ++ x) ≡ stuck x) q (subst (λ (x : List ℕ). parse x ≡ stuck r) h.1 e)) v })
 
 pub says : ParseSays

@@ -1,18 +1,17 @@
 -- The automaton reads each text of the grammar.
 -- Assumes nothing.
-use Rattle.std.proofs.Common.{◌≡◌, ℕ, true, List, [], ◌∷◌, ◌++◌, sym, refl, ap, ◌∙◌, append_assoc, append-nil, arith}
+use Rattle.std.proofs.Common.{◌≡◌, ℕ, true, List, [], ◌∷◌, ◌++◌, sym, refl, ap, ◌∙◌, append_assoc, append-nil, arith, Some, None}
 use Rattle.std.proofs.lemmas.Bool.Decides.{nat_tests}
 use Rattle.grammar.specs.Ast.{Json, Items, Members, num, none, also, mnone, malso}
 use Rattle.grammar.specs.Terminals.{is_blank, is_digit, is_positive, start_of, punct_of, behind, pair_tail}
 use Rattle.grammar.specs.Numbers.{is_e, Digits, d_one, d_more, Positive, p_one, p_more, Whole, whole_zero, whole_pos, whole_minus_zero, whole_minus, Mantissa, no_fraction, fraction, Sign, no_sign, some_sign, Number, no_exponent, exponent, next, may_end}
 use Rattle.grammar.specs.declared.kinds.Start.TheVariants.{Blank}
 use Rattle.grammar.specs.declared.kinds.Start.TheVariants as start
-use Rattle.grammar.specs.declared.kinds.Punct.TheVariants.{Space, NoPunct}
+use Rattle.grammar.specs.declared.kinds.Punct.TheVariants.{Space}
 use Rattle.grammar.specs.declared.kinds.Class.{Class}
 use Rattle.grammar.specs.declared.kinds.Class.TheVariants.{Hex}
 use Rattle.grammar.specs.declared.kinds.Phase.{Phase}
 use Rattle.grammar.specs.declared.kinds.Phase.TheVariants.{AtMinus, AtZero, AtWhole, AtPoint, AtFraction, AtE, AtSign, AtExponent}
-use Rattle.grammar.specs.declared.kinds.Turn.TheVariants.{Stop, To}
 use Rattle.grammar.proofs.Numbers.{digit_whole, digit_point, digit_fraction, digit_e, digit_sign, digit_exponent, positive_minus, e_zero, e_whole, e_fraction, sign_e, blank_quiet, quiet_stops}
 use Rattle.grammar.specs.Grammar.{Ws, w_none, w_more, Seq, q_none, q_more, Chars, c_none, c_plain, c_long, c_escape, c_unit, c_unit_d, c_pair, Named, named, Shows, s_null, s_true, s_false, s_num, s_str, s_arr0, s_arr, s_obj0, s_obj, Padded, padded, ShowsItems, i_one, i_more, ShowsMembers, m_one, m_more}
 use Rattle.grammar.specs.Machine.{in_arr, in_obj, Stack, Role, value, name, St, val, first, members, member, colon, aft, nums, chars, esc, uni, uni_d, seq, Next, bad, go, Out, stuck, step_val, step_first, step_members, step_member, step_colon, step_top, step_item, step_pair, end_nums, step_nums, finish_nums, step_chars, step_esc, step_uni, step_uni_d, step_seq, seq_go, step, run}
@@ -26,16 +25,16 @@ run_go s b t n e = ap (λ x. turn x b t) e
 pub run-same : (s n : St) (b : ℕ) (t : List ℕ) → step s b ≡ step n b → run s (b ∷ t) ≡ run n (b ∷ t)
 run-same s n b t e = ap (λ x. turn x b t) e
 
-pub blank_start : (b : ℕ) → is_blank b ≡ true → start_of b ≡ Blank
+pub blank_start : (b : ℕ) → is_blank b ≡ true → start_of b ≡ Some Blank
 blank_start b h = rw h refl
 
-pub blank_punct : (one two b : ℕ) → is_blank b ≡ true → punct_of one two b ≡ Space
+pub blank_punct : (one two b : ℕ) → is_blank b ≡ true → punct_of one two b ≡ Some Space
 blank_punct one two b h = rw h refl
 
-pub positive_start : (b : ℕ) → is_positive b ≡ true → start_of b ≡ start.Positive
+pub positive_start : (b : ℕ) → is_positive b ≡ true → start_of b ≡ Some start.Positive
 positive_start b h = grind (arith, nat_tests)
 
-pub positive_punct : (b : ℕ) → is_positive b ≡ true → punct_of 93 93 b ≡ NoPunct
+pub positive_punct : (b : ℕ) → is_positive b ≡ true → punct_of 93 93 b ≡ None
 positive_punct b h = grind (arith, nat_tests)
 
 pub r_ws : (s : St) → ((b : ℕ) → is_blank b ≡ true → step s b ≡ go s) → {w : List ℕ} → Ws w → (u : List ℕ) → run s (w ++ u) ≡ run s u
@@ -66,16 +65,16 @@ ws_aft d j (in_obj ms n ∷ k) b e = ap (λ x. step_pair x d j ms n k) (blank_pu
 -- no number goes on with what comes
 abbrev pub Ended : List ℕ → Type 0
 Ended [] = Unit {0}
-Ended (b ∷ u) = (p : Phase) → next p b ≡ Stop
+Ended (b ∷ u) = (p : Phase) → next p b ≡ None
 
 pub ws_ended : {w : List ℕ} → Ws w → (u : List ℕ) → Ended u → Ended (w ++ u)
 ws_ended w_none u h = h
 ws_ended (w_more b ws e) u h = rw append_assoc (ws_ended ws (b ∷ u) (quiet_stops b (blank_quiet b e)))
 
-pub hop : (d : ℕ) (p q : Phase) (r : List ℕ) (k : Stack) (b : ℕ) (u : List ℕ) → next p b ≡ To q → run (nums d p r k) (b ∷ u) ≡ run (nums d q (r ++ (b ∷ [])) k) u
+pub hop : (d : ℕ) (p q : Phase) (r : List ℕ) (k : Stack) (b : ℕ) (u : List ℕ) → next p b ≡ Some q → run (nums d p r k) (b ∷ u) ≡ run (nums d q (r ++ (b ∷ [])) k) u
 hop d p q r k b u e = run_go (nums d p r k) b u (nums d q (r ++ (b ∷ [])) k) (ap (λ x. step_nums x b d p r k) e)
 
-c_digits : {f : List ℕ} → Digits f → (p q : Phase) → ((b : ℕ) → is_digit b ≡ true → next p b ≡ To q) → ((b : ℕ) → is_digit b ≡ true → next q b ≡ To q) → (d : ℕ) (r : List ℕ) (k : Stack) (u : List ℕ) → run (nums d p r k) (f ++ u) ≡ run (nums d q (r ++ f) k) u
+c_digits : {f : List ℕ} → Digits f → (p q : Phase) → ((b : ℕ) → is_digit b ≡ true → next p b ≡ Some q) → ((b : ℕ) → is_digit b ≡ true → next q b ≡ Some q) → (d : ℕ) (r : List ℕ) (k : Stack) (u : List ℕ) → run (nums d p r k) (f ++ u) ≡ run (nums d q (r ++ f) k) u
 c_digits (d_one b h) p q e g d r k u = hop d p q r k b u (e b h)
 c_digits (d_more {r = f} b ds h) p q e g d r k u =
     rw (append_assoc f (b ∷ []) u)
@@ -97,12 +96,12 @@ pub record Ends (r : List ℕ) : Type 0 where
 
 pub record EndsWhole (r : List ℕ) : Type 0 where
   pub ends : Ends r
-  pub by_e : (b : ℕ) → is_e b ≡ true → next ends.phase b ≡ To AtE
-  pub by_point : next ends.phase 46 ≡ To AtPoint
+  pub by_e : (b : ℕ) → is_e b ≡ true → next ends.phase b ≡ Some AtE
+  pub by_point : next ends.phase 46 ≡ Some AtPoint
 
 pub record EndsMantissa (r : List ℕ) : Type 0 where
   pub ends : Ends r
-  pub by_e : (b : ℕ) → is_e b ≡ true → next ends.phase b ≡ To AtE
+  pub by_e : (b : ℕ) → is_e b ≡ true → next ends.phase b ≡ Some AtE
 
 c_whole : {r : List ℕ} → Whole r → EndsWhole r
 c_whole whole_zero = record { ends = record { phase = AtZero; reach = λ d k u. refl; ok = refl }; by_e = e_zero; by_point = refl }

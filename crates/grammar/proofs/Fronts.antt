@@ -1,6 +1,6 @@
 -- An object's text ends by itself: nothing that follows it changes what it is.
 -- Assumes nothing.
-use Rattle.std.proofs.Common.{◌≡◌, ℕ, true, ◌⊎◌, List, [], ◌∷◌, ◌++◌, sym, refl, ap, ◌∙◌, inl, inr, append_assoc, append-nil, arith}
+use Rattle.std.proofs.Common.{◌≡◌, ℕ, true, ◌⊎◌, List, [], ◌∷◌, ◌++◌, sym, refl, ap, ◌∙◌, inl, inr, append_assoc, append-nil, arith, Some, None, Option}
 use Rattle.std.proofs.lemmas.Bool.Decides.{nat_tests}
 use borrow.Author.Tests.{clash}
 use Rattle.grammar.specs.Ast.{Json, Members, obj}
@@ -9,7 +9,7 @@ use Rattle.grammar.specs.Grammar.{Shows, s_obj0, s_obj}
 use Rattle.grammar.specs.Machine.{Stack, val, members, aft, done, step_top, run}
 use Rattle.grammar.specs.Laws.{ObjectsEnd}
 use Rattle.grammar.specs.declared.kinds.Punct.{Punct}
-use Rattle.grammar.specs.declared.kinds.Punct.TheVariants.{Space, One, Two, NoPunct}
+use Rattle.grammar.specs.declared.kinds.Punct.TheVariants.{Space, One, Two}
 use Rattle.grammar.proofs.Numbers.{quiet_stops}
 use Rattle.grammar.proofs.Complete.{turn, r_ws, ws_members, c_members}
 
@@ -22,14 +22,14 @@ abbrev AllBlank : List ℕ → Type 0
 AllBlank [] = Unit {0}
 AllBlank (b ∷ w) = (is_blank b ≡ true) × AllBlank w
 
-space_is : (b : ℕ) → punct_of 256 256 b ≡ Space → is_blank b ≡ true
+space_is : (b : ℕ) → punct_of 256 256 b ≡ Some Space → is_blank b ≡ true
 space_is b h = grind (arith, nat_tests)
 
-top_turn : (w : List ℕ) (d : ℕ) (j i : Json) (b : ℕ) → (run (aft d j []) w ≡ done i → AllBlank w × (j ≡ i)) → (c : Punct) → punct_of 256 256 b ≡ c → turn (step_top c d j) b w ≡ done i → AllBlank (b ∷ w) × (j ≡ i)
-top_turn w d j i b f Space h e = let r = f e in ((space_is b h, r.0), r.1)
-top_turn w d j i b f One h e = let z : ◌≡◌ {A = ℕ} 0 1 = cc in absurd (omega arith)
-top_turn w d j i b f Two h e = let z : ◌≡◌ {A = ℕ} 0 1 = cc in absurd (omega arith)
-top_turn w d j i b f NoPunct h e = let z : ◌≡◌ {A = ℕ} 0 1 = cc in absurd (omega arith)
+top_turn : (w : List ℕ) (d : ℕ) (j i : Json) (b : ℕ) → (run (aft d j []) w ≡ done i → AllBlank w × (j ≡ i)) → (c : Option Punct) → punct_of 256 256 b ≡ c → turn (step_top c d j) b w ≡ done i → AllBlank (b ∷ w) × (j ≡ i)
+top_turn w d j i b f (Some Space) h e = let r = f e in ((space_is b h, r.0), r.1)
+top_turn w d j i b f (Some One) h e = grind arith
+top_turn w d j i b f (Some Two) h e = grind arith
+top_turn w d j i b f None h e = grind arith
 
 run_top : (w : List ℕ) (d : ℕ) (j i : Json) → run (aft d j []) w ≡ done i → AllBlank w × (j ≡ i)
 run_top [] d j i e = let f : j ≡ i = cc in (tt, f)

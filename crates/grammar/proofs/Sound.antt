@@ -1,27 +1,25 @@
 -- What the automaton has read is a start of a text: each state has a meaning, each step keeps it, and each meaning can be completed.
 -- Assumes nothing.
-use Rattle.std.proofs.Common.{◌≡◌, ℕ, zero, suc, Bool, true, false, eqb, List, [], ◌∷◌, ◌++◌, sym, refl, subst, append_assoc, append-nil, arith}
+use Rattle.std.proofs.Common.{◌≡◌, ℕ, zero, suc, Bool, true, false, eqb, List, [], ◌∷◌, ◌++◌, sym, refl, subst, append_assoc, append-nil, arith, Some, None, Option}
 use Rattle.std.proofs.lemmas.Bool.Decides.{nat_tests}
 use Rattle.grammar.specs.Ast.{Json, Items, Members, none, also, mnone, malso}
 use Rattle.grammar.specs.Terminals.{is_blank, is_positive, within, start_of, punct_of, fits, char_of, behind, escape_of, first_of, second_of, pair_tail}
 use Rattle.grammar.specs.Numbers.{p_one, next, may_end, At, a_minus, a_zero, a_whole}
 use Rattle.grammar.specs.declared.kinds.Start.{Start}
-use Rattle.grammar.specs.declared.kinds.Start.TheVariants.{Blank, Quote, Minus, Zero, Positive, OpenArray, OpenObject, LitT, LitF, LitN, NoStart}
+use Rattle.grammar.specs.declared.kinds.Start.TheVariants.{Blank, Quote, Minus, Zero, Positive, OpenArray, OpenObject, LitT, LitF, LitN}
 use Rattle.grammar.specs.declared.kinds.Punct.{Punct}
-use Rattle.grammar.specs.declared.kinds.Punct.TheVariants.{Space, One, Two, NoPunct}
+use Rattle.grammar.specs.declared.kinds.Punct.TheVariants.{Space, One, Two}
 use Rattle.grammar.specs.declared.kinds.Class.{Class}
 use Rattle.grammar.specs.declared.kinds.Class.TheVariants.{In, Hex, IsD, CtoF}
 use Rattle.grammar.specs.declared.kinds.Char.{Char}
-use Rattle.grammar.specs.declared.kinds.Char.TheVariants.{Plain, EndQuote, Back, Long, NoChar}
+use Rattle.grammar.specs.declared.kinds.Char.TheVariants.{Plain, EndQuote, Back, Long}
 use Rattle.grammar.specs.declared.kinds.Escape.{Escape}
-use Rattle.grammar.specs.declared.kinds.Escape.TheVariants.{Simple, CodeUnit, NoEscape}
+use Rattle.grammar.specs.declared.kinds.Escape.TheVariants.{Simple, CodeUnit}
 use Rattle.grammar.specs.declared.kinds.FirstHex.{FirstHex}
-use Rattle.grammar.specs.declared.kinds.FirstHex.TheVariants.{FirstD, OtherHex, NoFirst}
+use Rattle.grammar.specs.declared.kinds.FirstHex.TheVariants.{FirstD, OtherHex}
 use Rattle.grammar.specs.declared.kinds.SecondHex.{SecondHex}
-use Rattle.grammar.specs.declared.kinds.SecondHex.TheVariants.{Whole, High, NoSecond}
+use Rattle.grammar.specs.declared.kinds.SecondHex.TheVariants.{Whole, High}
 use Rattle.grammar.specs.declared.kinds.Phase.{Phase}
-use Rattle.grammar.specs.declared.kinds.Turn.{Turn}
-use Rattle.grammar.specs.declared.kinds.Turn.TheVariants.{Stop, To}
 use Rattle.grammar.proofs.Numbers.{eqb_is, Goes, goes_on, can_go, ends}
 use Rattle.grammar.specs.Grammar.{Ws, w_none, w_more, Seq, q_none, q_more, Chars, c_none, c_plain, c_long, c_escape, c_unit, c_unit_d, c_pair, Named, named, Shows, s_null, s_true, s_false, s_num, s_str, s_arr0, s_arr, s_obj0, s_obj, padded, ShowsItems, i_one, i_more, ShowsMembers, m_one, m_more, Viable}
 use Rattle.grammar.specs.Machine.{in_arr, in_obj, Stack, Role, value, name, St, val, first, members, member, colon, aft, nums, chars, esc, uni, uni_d, seq, lit, Next, bad, go, open_array, open_object, step_val, step_first, step_members, step_member, step_colon, step_top, step_item, step_pair, step_aft, end_nums, step_nums, step_chars, step_esc, step_uni, step_uni_d, step_seq, seq_go, end_string, lit_end, lit_next, step}
@@ -55,7 +53,7 @@ pub data Mean : St → List ℕ → Type 0 where
   at_chars : {d : ℕ} {k : Stack} {g : Role} {p r : List ℕ} → OpenString d g k p → Chars r → Mean (chars d g r k) (p ++ (34 ∷ r))
   at_esc : {d : ℕ} {k : Stack} {g : Role} {p r : List ℕ} → OpenString d g k p → Chars r → Mean (esc d g r k) (p ++ (34 ∷ (r ++ (92 ∷ []))))
   at_uni : {d : ℕ} {k : Stack} {g : Role} {p r : List ℕ} → OpenString d g k p → Chars r → Mean (uni d g r k) (p ++ (34 ∷ (r ++ (92 ∷ 117 ∷ []))))
-  at_uni_d : {d : ℕ} {k : Stack} {g : Role} {p r : List ℕ} (b : ℕ) → OpenString d g k p → Chars r → first_of b ≡ FirstD → Mean (uni_d d g r b k) (p ++ (34 ∷ (r ++ (92 ∷ 117 ∷ b ∷ []))))
+  at_uni_d : {d : ℕ} {k : Stack} {g : Role} {p r : List ℕ} (b : ℕ) → OpenString d g k p → Chars r → first_of b ≡ Some FirstD → Mean (uni_d d g r b k) (p ++ (34 ∷ (r ++ (92 ∷ 117 ∷ b ∷ []))))
   at_seq : {d : ℕ} {k : Stack} {g : Role} {p r a : List ℕ} {c : Class} {cs : List Class} → OpenString d g k p → ((v : List ℕ) → Seq (c ∷ cs) v → Chars (r ++ (a ++ v))) → Mean (seq d g r a c cs k) (p ++ (34 ∷ (r ++ a)))
   at_lit : {d : ℕ} {k : Stack} {j : Json} {p l : List ℕ} {c : ℕ} (a : List ℕ) → Open d k p → Shows d j (a ++ (c ∷ l)) → Mean (lit d (c ∷ l) j k) (p ++ a)
 
@@ -67,52 +65,52 @@ mean_at : {n : St} {p q : List ℕ} → Mean n p → p ≡ q → Mean n q
 mean_at {n} m e = subst (λ (x : List ℕ). Mean n x) e m
 
 -- what the tests tell
-start_blank : (b : ℕ) → start_of b ≡ Blank → is_blank b ≡ true
+start_blank : (b : ℕ) → start_of b ≡ Some Blank → is_blank b ≡ true
 start_blank b h = grind (arith, nat_tests)
 
-start_quote : (b : ℕ) → start_of b ≡ Quote → b ≡ 34
+start_quote : (b : ℕ) → start_of b ≡ Some Quote → b ≡ 34
 start_quote b h = grind (arith, nat_tests)
 
-start_minus : (b : ℕ) → start_of b ≡ Minus → b ≡ 45
+start_minus : (b : ℕ) → start_of b ≡ Some Minus → b ≡ 45
 start_minus b h = grind (arith, nat_tests)
 
-start_zero : (b : ℕ) → start_of b ≡ Zero → b ≡ 48
+start_zero : (b : ℕ) → start_of b ≡ Some Zero → b ≡ 48
 start_zero b h = grind (arith, nat_tests)
 
-start_positive : (b : ℕ) → start_of b ≡ Positive → is_positive b ≡ true
+start_positive : (b : ℕ) → start_of b ≡ Some Positive → is_positive b ≡ true
 start_positive b h = grind (arith, nat_tests)
 
-start_open : (b : ℕ) → start_of b ≡ OpenArray → b ≡ 91
+start_open : (b : ℕ) → start_of b ≡ Some OpenArray → b ≡ 91
 start_open b h = grind (arith, nat_tests)
 
-start_obj : (b : ℕ) → start_of b ≡ OpenObject → b ≡ 123
+start_obj : (b : ℕ) → start_of b ≡ Some OpenObject → b ≡ 123
 start_obj b h = grind (arith, nat_tests)
 
-start_t : (b : ℕ) → start_of b ≡ LitT → b ≡ 116
+start_t : (b : ℕ) → start_of b ≡ Some LitT → b ≡ 116
 start_t b h = grind (arith, nat_tests)
 
-start_f : (b : ℕ) → start_of b ≡ LitF → b ≡ 102
+start_f : (b : ℕ) → start_of b ≡ Some LitF → b ≡ 102
 start_f b h = grind (arith, nat_tests)
 
-start_n : (b : ℕ) → start_of b ≡ LitN → b ≡ 110
+start_n : (b : ℕ) → start_of b ≡ Some LitN → b ≡ 110
 start_n b h = grind (arith, nat_tests)
 
-punct_space : (one two b : ℕ) → punct_of one two b ≡ Space → is_blank b ≡ true
+punct_space : (one two b : ℕ) → punct_of one two b ≡ Some Space → is_blank b ≡ true
 punct_space one two b h = grind (arith, nat_tests)
 
-punct_one : (one two b : ℕ) → punct_of one two b ≡ One → b ≡ one
+punct_one : (one two b : ℕ) → punct_of one two b ≡ Some One → b ≡ one
 punct_one one two b h = grind (arith, nat_tests)
 
-punct_two : (one two b : ℕ) → punct_of one two b ≡ Two → b ≡ two
+punct_two : (one two b : ℕ) → punct_of one two b ≡ Some Two → b ≡ two
 punct_two one two b h = grind (arith, nat_tests)
 
-char_end : (b : ℕ) → char_of b ≡ EndQuote → b ≡ 34
+char_end : (b : ℕ) → char_of b ≡ Some EndQuote → b ≡ 34
 char_end b h = grind (arith, nat_tests)
 
-char_back : (b : ℕ) → char_of b ≡ Back → b ≡ 92
+char_back : (b : ℕ) → char_of b ≡ Some Back → b ≡ 92
 char_back b h = grind (arith, nat_tests)
 
-esc_uni : (b : ℕ) → escape_of b ≡ CodeUnit → b ≡ 117
+esc_uni : (b : ℕ) → escape_of b ≡ Some CodeUnit → b ≡ 117
 esc_uni b h = grind (arith, nat_tests)
 
 open_ws : {d : ℕ} {k : Stack} {p : List ℕ} → Open d k p → (b : ℕ) → is_blank b ≡ true → Open d k (p ++ (b ∷ []))
@@ -131,46 +129,46 @@ k_obj : {d : ℕ} {k : Stack} {p : List ℕ} → Open d k p → Good (open_objec
 k_obj {d = zero} o = tt
 k_obj {d = suc d} o = at_members o w_none
 
-k_val : {d : ℕ} {k : Stack} {p : List ℕ} → Open d k p → (b : ℕ) (c : Start) → start_of b ≡ c → Good (step_val c b d k) (p ++ (b ∷ []))
-k_val o b Blank e = at_val (open_ws o b (start_blank b e))
-k_val o b Quote e = rw (start_quote b e) (at_chars (os_value o) c_none)
-k_val o b Minus e = rw (start_minus b e) (at_nums o a_minus)
-k_val o b Zero e = rw (start_zero b e) (at_nums o a_zero)
-k_val o b Positive e = at_nums o (a_whole (p_one b (start_positive b e)))
-k_val o b OpenArray e = rw (start_open b e) (k_open o)
-k_val o b OpenObject e = rw (start_obj b e) (k_obj o)
-k_val o b LitT e = rw (start_t b e) (at_lit (116 ∷ []) o s_true)
-k_val o b LitF e = rw (start_f b e) (at_lit (102 ∷ []) o s_false)
-k_val o b LitN e = rw (start_n b e) (at_lit (110 ∷ []) o s_null)
-k_val o b NoStart e = tt
+k_val : {d : ℕ} {k : Stack} {p : List ℕ} → Open d k p → (b : ℕ) (c : Option Start) → start_of b ≡ c → Good (step_val c b d k) (p ++ (b ∷ []))
+k_val o b (Some Blank) e = at_val (open_ws o b (start_blank b e))
+k_val o b (Some Quote) e = rw (start_quote b e) (at_chars (os_value o) c_none)
+k_val o b (Some Minus) e = rw (start_minus b e) (at_nums o a_minus)
+k_val o b (Some Zero) e = rw (start_zero b e) (at_nums o a_zero)
+k_val o b (Some Positive) e = at_nums o (a_whole (p_one b (start_positive b e)))
+k_val o b (Some OpenArray) e = rw (start_open b e) (k_open o)
+k_val o b (Some OpenObject) e = rw (start_obj b e) (k_obj o)
+k_val o b (Some LitT) e = rw (start_t b e) (at_lit (116 ∷ []) o s_true)
+k_val o b (Some LitF) e = rw (start_f b e) (at_lit (102 ∷ []) o s_false)
+k_val o b (Some LitN) e = rw (start_n b e) (at_lit (110 ∷ []) o s_null)
+k_val o b None e = tt
 
-k_first : {d : ℕ} {k : Stack} {p w : List ℕ} → Open (suc d) k p → Ws w → (b : ℕ) (c : Punct) → punct_of 93 93 b ≡ c → Good (step_first c b d k) ((p ++ (91 ∷ w)) ++ (b ∷ []))
-k_first o ws b Space e = rw append_assoc (at_first o (w_more b ws (punct_space 93 93 b e)))
-k_first o ws b One e = rw (punct_one 93 93 b e) (mean_at (at_aft o (s_arr0 ws) w_none) (simp (append_assoc, append-nil)))
-k_first o ws b Two e = rw (punct_two 93 93 b e) (mean_at (at_aft o (s_arr0 ws) w_none) (simp (append_assoc, append-nil)))
-k_first o ws b NoPunct e = k_val (o_first o ws) b (start_of b) refl
+k_first : {d : ℕ} {k : Stack} {p w : List ℕ} → Open (suc d) k p → Ws w → (b : ℕ) (c : Option Punct) → punct_of 93 93 b ≡ c → Good (step_first c b d k) ((p ++ (91 ∷ w)) ++ (b ∷ []))
+k_first o ws b (Some Space) e = rw append_assoc (at_first o (w_more b ws (punct_space 93 93 b e)))
+k_first o ws b (Some One) e = rw (punct_one 93 93 b e) (mean_at (at_aft o (s_arr0 ws) w_none) (simp (append_assoc, append-nil)))
+k_first o ws b (Some Two) e = rw (punct_two 93 93 b e) (mean_at (at_aft o (s_arr0 ws) w_none) (simp (append_assoc, append-nil)))
+k_first o ws b None e = k_val (o_first o ws) b (start_of b) refl
 
-k_members : {d : ℕ} {k : Stack} {p w : List ℕ} → Open (suc d) k p → Ws w → (b : ℕ) (c : Punct) → punct_of 34 125 b ≡ c → Good (step_members c d k) ((p ++ (123 ∷ w)) ++ (b ∷ []))
-k_members o ws b Space e = rw append_assoc (at_members o (w_more b ws (punct_space 34 125 b e)))
-k_members o ws b One e = rw (punct_one 34 125 b e) (mean_at (at_chars (os_name (on_first o) ws) c_none) (simp append_assoc))
-k_members o ws b Two e = rw (punct_two 34 125 b e) (mean_at (at_aft o (s_obj0 ws) w_none) (simp (append_assoc, append-nil)))
-k_members o ws b NoPunct e = tt
+k_members : {d : ℕ} {k : Stack} {p w : List ℕ} → Open (suc d) k p → Ws w → (b : ℕ) (c : Option Punct) → punct_of 34 125 b ≡ c → Good (step_members c d k) ((p ++ (123 ∷ w)) ++ (b ∷ []))
+k_members o ws b (Some Space) e = rw append_assoc (at_members o (w_more b ws (punct_space 34 125 b e)))
+k_members o ws b (Some One) e = rw (punct_one 34 125 b e) (mean_at (at_chars (os_name (on_first o) ws) c_none) (simp append_assoc))
+k_members o ws b (Some Two) e = rw (punct_two 34 125 b e) (mean_at (at_aft o (s_obj0 ws) w_none) (simp (append_assoc, append-nil)))
+k_members o ws b None e = tt
 
-k_member : {d : ℕ} {ms : Members} {k : Stack} {p w : List ℕ} → OpenName d ms k p → Ws w → (b : ℕ) (c : Punct) → punct_of 34 34 b ≡ c → Good (step_member c d ms k) ((p ++ w) ++ (b ∷ []))
-k_member o ws b Space e = rw append_assoc (at_member o (w_more b ws (punct_space 34 34 b e)))
-k_member o ws b One e = rw (punct_one 34 34 b e) (at_chars (os_name o ws) c_none)
-k_member o ws b Two e = rw (punct_two 34 34 b e) (at_chars (os_name o ws) c_none)
-k_member o ws b NoPunct e = tt
+k_member : {d : ℕ} {ms : Members} {k : Stack} {p w : List ℕ} → OpenName d ms k p → Ws w → (b : ℕ) (c : Option Punct) → punct_of 34 34 b ≡ c → Good (step_member c d ms k) ((p ++ w) ++ (b ∷ []))
+k_member o ws b (Some Space) e = rw append_assoc (at_member o (w_more b ws (punct_space 34 34 b e)))
+k_member o ws b (Some One) e = rw (punct_one 34 34 b e) (at_chars (os_name o ws) c_none)
+k_member o ws b (Some Two) e = rw (punct_two 34 34 b e) (at_chars (os_name o ws) c_none)
+k_member o ws b None e = tt
 
 named_ws : {n u : List ℕ} → Named n u → (b : ℕ) → is_blank b ≡ true → Named n (u ++ (b ∷ []))
 named_ws (named {n} {w} {v} ws cs vs) b h =
     rw (append_assoc w (34 ∷ (n ++ (34 ∷ v))) (b ∷ []), append_assoc n (34 ∷ v) (b ∷ [])) (named ws cs (w_more b vs h))
 
-k_colon : {d : ℕ} {ms : Members} {n : List ℕ} {k : Stack} {p u : List ℕ} → OpenName d ms k p → Named n u → (b : ℕ) (c : Punct) → punct_of 58 58 b ≡ c → Good (step_colon c d ms n k) ((p ++ u) ++ (b ∷ []))
-k_colon o nm b Space e = rw append_assoc (at_colon o (named_ws nm b (punct_space 58 58 b e)))
-k_colon o nm b One e = rw (punct_one 58 58 b e, append_assoc) (at_val (o_value o nm w_none))
-k_colon o nm b Two e = rw (punct_two 58 58 b e, append_assoc) (at_val (o_value o nm w_none))
-k_colon o nm b NoPunct e = tt
+k_colon : {d : ℕ} {ms : Members} {n : List ℕ} {k : Stack} {p u : List ℕ} → OpenName d ms k p → Named n u → (b : ℕ) (c : Option Punct) → punct_of 58 58 b ≡ c → Good (step_colon c d ms n k) ((p ++ u) ++ (b ∷ []))
+k_colon o nm b (Some Space) e = rw append_assoc (at_colon o (named_ws nm b (punct_space 58 58 b e)))
+k_colon o nm b (Some One) e = rw (punct_one 58 58 b e, append_assoc) (at_val (o_value o nm w_none))
+k_colon o nm b (Some Two) e = rw (punct_two 58 58 b e, append_assoc) (at_val (o_value o nm w_none))
+k_colon o nm b None e = tt
 
 -- the innermost array with one more item, the innermost object with one more member
 pub record Extended (d : ℕ) (k : Stack) (xs : Items) (j : Json) (q : List ℕ) : Type 0 where
@@ -200,31 +198,31 @@ extend_name (on_next {p = p} {t = s} o is) {u = u} {v = v} nm vs {t = t} {w = w}
 extend_by : {d : ℕ} {ms : Members} {n : List ℕ} {k : Stack} {q : List ℕ} → Open d (in_obj ms n ∷ k) q → {j : Json} {t w : List ℕ} → Shows d j t → Ws w → ExtendedBy d k ms n j (q ++ (t ++ w))
 extend_by (o_value o nm vs) sh ws = extend_name o nm vs sh ws
 
-k_item : {d : ℕ} {xs : Items} {k : Stack} {q : List ℕ} {j : Json} {t w : List ℕ} → Open d (in_arr xs ∷ k) q → Shows d j t → Ws w → (b : ℕ) (c : Punct) → punct_of 44 93 b ≡ c → Good (step_item c d j xs k) ((q ++ (t ++ w)) ++ (b ∷ []))
-k_item o sh ws b Space e = mean_at (at_aft o sh (w_more b ws (punct_space 44 93 b e))) (simp append_assoc)
-k_item o sh ws b One e =
+k_item : {d : ℕ} {xs : Items} {k : Stack} {q : List ℕ} {j : Json} {t w : List ℕ} → Open d (in_arr xs ∷ k) q → Shows d j t → Ws w → (b : ℕ) (c : Option Punct) → punct_of 44 93 b ≡ c → Good (step_item c d j xs k) ((q ++ (t ++ w)) ++ (b ∷ []))
+k_item o sh ws b (Some Space) e = mean_at (at_aft o sh (w_more b ws (punct_space 44 93 b e))) (simp append_assoc)
+k_item o sh ws b (Some One) e =
     let x = extend o sh ws in
     at_val (rw (punct_one 44 93 b e, x.is, append_assoc x.before (91 ∷ x.items) (44 ∷ [])) (o_next x.opened x.shown w_none))
-k_item o sh ws b Two e =
+k_item o sh ws b (Some Two) e =
     let x = extend o sh ws in
     rw (punct_two 44 93 b e, x.is) (mean_at (at_aft x.opened (s_arr x.shown) w_none) (simp (append_assoc, append-nil)))
-k_item o sh ws b NoPunct e = tt
+k_item o sh ws b None e = tt
 
-k_pair : {d : ℕ} {ms : Members} {n : List ℕ} {k : Stack} {q : List ℕ} {j : Json} {t w : List ℕ} → Open d (in_obj ms n ∷ k) q → Shows d j t → Ws w → (b : ℕ) (c : Punct) → punct_of 44 125 b ≡ c → Good (step_pair c d j ms n k) ((q ++ (t ++ w)) ++ (b ∷ []))
-k_pair o sh ws b Space e = mean_at (at_aft o sh (w_more b ws (punct_space 44 125 b e))) (simp append_assoc)
-k_pair o sh ws b One e =
+k_pair : {d : ℕ} {ms : Members} {n : List ℕ} {k : Stack} {q : List ℕ} {j : Json} {t w : List ℕ} → Open d (in_obj ms n ∷ k) q → Shows d j t → Ws w → (b : ℕ) (c : Option Punct) → punct_of 44 125 b ≡ c → Good (step_pair c d j ms n k) ((q ++ (t ++ w)) ++ (b ∷ []))
+k_pair o sh ws b (Some Space) e = mean_at (at_aft o sh (w_more b ws (punct_space 44 125 b e))) (simp append_assoc)
+k_pair o sh ws b (Some One) e =
     let x = extend_by o sh ws in
     rw (punct_one 44 125 b e, x.is) (mean_at (at_member (on_next x.opened x.shown) w_none) (simp (append_assoc, append-nil)))
-k_pair o sh ws b Two e =
+k_pair o sh ws b (Some Two) e =
     let x = extend_by o sh ws in
     rw (punct_two 44 125 b e, x.is) (mean_at (at_aft x.opened (s_obj x.shown) w_none) (simp (append_assoc, append-nil)))
-k_pair o sh ws b NoPunct e = tt
+k_pair o sh ws b None e = tt
 
-k_top : {d : ℕ} {q : List ℕ} {j : Json} {t w : List ℕ} → Open d [] q → Shows d j t → Ws w → (b : ℕ) (c : Punct) → punct_of 256 256 b ≡ c → Good (step_top c d j) ((q ++ (t ++ w)) ++ (b ∷ []))
-k_top o sh ws b Space e = mean_at (at_aft o sh (w_more b ws (punct_space 256 256 b e))) (simp append_assoc)
-k_top o sh ws b One e = tt
-k_top o sh ws b Two e = tt
-k_top o sh ws b NoPunct e = tt
+k_top : {d : ℕ} {q : List ℕ} {j : Json} {t w : List ℕ} → Open d [] q → Shows d j t → Ws w → (b : ℕ) (c : Option Punct) → punct_of 256 256 b ≡ c → Good (step_top c d j) ((q ++ (t ++ w)) ++ (b ∷ []))
+k_top o sh ws b (Some Space) e = mean_at (at_aft o sh (w_more b ws (punct_space 256 256 b e))) (simp append_assoc)
+k_top o sh ws b (Some One) e = tt
+k_top o sh ws b (Some Two) e = tt
+k_top o sh ws b None e = tt
 
 k_aft : {d : ℕ} (k : Stack) {q : List ℕ} {j : Json} {t w : List ℕ} → Open d k q → Shows d j t → Ws w → (b : ℕ) → Good (step_aft b d j k) ((q ++ (t ++ w)) ++ (b ∷ []))
 k_aft [] o sh ws b = k_top o sh ws b (punct_of 256 256 b) refl
@@ -235,9 +233,9 @@ k_end_nums : {d : ℕ} {k : Stack} {f : Phase} {q r : List ℕ} → Open d k q �
 k_end_nums {k = k} o a b true e = rw append-nil at (k_aft k o (s_num (ends a e)) w_none b)
 k_end_nums o a b false e = tt
 
-k_nums : {d : ℕ} {k : Stack} {f : Phase} {q r : List ℕ} → Open d k q → At f r → (b : ℕ) (c : Turn) → next f b ≡ c → Good (step_nums c b d f r k) ((q ++ r) ++ (b ∷ []))
-k_nums {r = r} o a b (To p) e = rw append_assoc (at_nums o (subst (λ (x : Turn). Goes x (r ++ (b ∷ []))) e (goes_on a b)))
-k_nums {f = f} o a b Stop e = k_end_nums o a b (may_end f) refl
+k_nums : {d : ℕ} {k : Stack} {f : Phase} {q r : List ℕ} → Open d k q → At f r → (b : ℕ) (c : Option Phase) → next f b ≡ c → Good (step_nums c b d f r k) ((q ++ r) ++ (b ∷ []))
+k_nums {r = r} o a b (Some p) e = rw append_assoc (at_nums o (subst (λ (x : Option Phase). Goes x (r ++ (b ∷ []))) e (goes_on a b)))
+k_nums {f = f} o a b None e = k_end_nums o a b (may_end f) refl
 
 -- strings
 k_end : {d : ℕ} {g : Role} {k : Stack} {p r : List ℕ} → OpenString d g k p → Chars r → Mean (end_string g d r k) ((p ++ (34 ∷ r)) ++ (34 ∷ []))
@@ -248,27 +246,27 @@ k_seqs : {d : ℕ} {g : Role} {k : Stack} {p : List ℕ} (cs : List Class) (r a 
 k_seqs [] r a o f = at_chars o (rw append-nil at (f [] q_none))
 k_seqs (c ∷ cs) r a o f = at_seq o f
 
-k_chars : {d : ℕ} {g : Role} {k : Stack} {q r : List ℕ} → OpenString d g k q → Chars r → (b : ℕ) (c : Char) → char_of b ≡ c → Good (step_chars c b d g r k) ((q ++ (34 ∷ r)) ++ (b ∷ []))
-k_chars o cs b Plain e = rw append_assoc (at_chars o (c_plain b cs e))
-k_chars o cs b EndQuote e = rw (char_end b e) (k_end o cs)
-k_chars o cs b Back e = rw (char_back b e, append_assoc) (at_esc o cs)
-k_chars {r = r} o cs b (Long l) e = rw append_assoc (k_seqs (behind l) r (b ∷ []) o (λ v q. c_long b l cs e q))
-k_chars o cs b NoChar e = tt
+k_chars : {d : ℕ} {g : Role} {k : Stack} {q r : List ℕ} → OpenString d g k q → Chars r → (b : ℕ) (c : Option Char) → char_of b ≡ c → Good (step_chars c b d g r k) ((q ++ (34 ∷ r)) ++ (b ∷ []))
+k_chars o cs b (Some Plain) e = rw append_assoc (at_chars o (c_plain b cs e))
+k_chars o cs b (Some EndQuote) e = rw (char_end b e) (k_end o cs)
+k_chars o cs b (Some Back) e = rw (char_back b e, append_assoc) (at_esc o cs)
+k_chars {r = r} o cs b (Some (Long l)) e = rw append_assoc (k_seqs (behind l) r (b ∷ []) o (λ v q. c_long b l cs e q))
+k_chars o cs b None e = tt
 
-k_esc : {d : ℕ} {g : Role} {k : Stack} {q r : List ℕ} → OpenString d g k q → Chars r → (b : ℕ) (c : Escape) → escape_of b ≡ c → Good (step_esc c b d g r k) ((q ++ (34 ∷ (r ++ (92 ∷ [])))) ++ (b ∷ []))
-k_esc o cs b Simple e = mean_at (at_chars o (c_escape b cs e)) (simp append_assoc)
-k_esc o cs b CodeUnit e = rw (esc_uni b e) (mean_at (at_uni o cs) (simp append_assoc))
-k_esc o cs b NoEscape e = tt
+k_esc : {d : ℕ} {g : Role} {k : Stack} {q r : List ℕ} → OpenString d g k q → Chars r → (b : ℕ) (c : Option Escape) → escape_of b ≡ c → Good (step_esc c b d g r k) ((q ++ (34 ∷ (r ++ (92 ∷ [])))) ++ (b ∷ []))
+k_esc o cs b (Some Simple) e = mean_at (at_chars o (c_escape b cs e)) (simp append_assoc)
+k_esc o cs b (Some CodeUnit) e = rw (esc_uni b e) (mean_at (at_uni o cs) (simp append_assoc))
+k_esc o cs b None e = tt
 
-k_uni : {d : ℕ} {g : Role} {k : Stack} {q r : List ℕ} → OpenString d g k q → Chars r → (b : ℕ) (c : FirstHex) → first_of b ≡ c → Good (step_uni c b d g r k) ((q ++ (34 ∷ (r ++ (92 ∷ 117 ∷ [])))) ++ (b ∷ []))
-k_uni o cs b FirstD e = mean_at (at_uni_d b o cs e) (simp append_assoc)
-k_uni {r = r} o cs b OtherHex e = mean_at (k_seqs (Hex ∷ Hex ∷ Hex ∷ []) r (92 ∷ 117 ∷ b ∷ []) o (λ v q. c_unit b cs e q)) (simp append_assoc)
-k_uni o cs b NoFirst e = tt
+k_uni : {d : ℕ} {g : Role} {k : Stack} {q r : List ℕ} → OpenString d g k q → Chars r → (b : ℕ) (c : Option FirstHex) → first_of b ≡ c → Good (step_uni c b d g r k) ((q ++ (34 ∷ (r ++ (92 ∷ 117 ∷ [])))) ++ (b ∷ []))
+k_uni o cs b (Some FirstD) e = mean_at (at_uni_d b o cs e) (simp append_assoc)
+k_uni {r = r} o cs b (Some OtherHex) e = mean_at (k_seqs (Hex ∷ Hex ∷ Hex ∷ []) r (92 ∷ 117 ∷ b ∷ []) o (λ v q. c_unit b cs e q)) (simp append_assoc)
+k_uni o cs b None e = tt
 
-k_uni_d : {d : ℕ} {g : Role} {k : Stack} {q r : List ℕ} (b : ℕ) → OpenString d g k q → Chars r → first_of b ≡ FirstD → (e : ℕ) (c : SecondHex) → second_of e ≡ c → Good (step_uni_d c e d g r b k) ((q ++ (34 ∷ (r ++ (92 ∷ 117 ∷ b ∷ [])))) ++ (e ∷ []))
-k_uni_d {r = r} b o cs h e Whole i = mean_at (k_seqs (Hex ∷ Hex ∷ []) r (92 ∷ 117 ∷ b ∷ e ∷ []) o (λ v q. c_unit_d b e cs h i q)) (simp append_assoc)
-k_uni_d {r = r} b o cs h e High i = mean_at (k_seqs pair_tail r (92 ∷ 117 ∷ b ∷ e ∷ []) o (λ v q. c_pair b e cs h i q)) (simp append_assoc)
-k_uni_d b o cs h e NoSecond i = tt
+k_uni_d : {d : ℕ} {g : Role} {k : Stack} {q r : List ℕ} (b : ℕ) → OpenString d g k q → Chars r → first_of b ≡ Some FirstD → (e : ℕ) (c : Option SecondHex) → second_of e ≡ c → Good (step_uni_d c e d g r b k) ((q ++ (34 ∷ (r ++ (92 ∷ 117 ∷ b ∷ [])))) ++ (e ∷ []))
+k_uni_d {r = r} b o cs h e (Some Whole) i = mean_at (k_seqs (Hex ∷ Hex ∷ []) r (92 ∷ 117 ∷ b ∷ e ∷ []) o (λ v q. c_unit_d b e cs h i q)) (simp append_assoc)
+k_uni_d {r = r} b o cs h e (Some High) i = mean_at (k_seqs pair_tail r (92 ∷ 117 ∷ b ∷ e ∷ []) o (λ v q. c_pair b e cs h i q)) (simp append_assoc)
+k_uni_d b o cs h e None i = tt
 
 k_seq : {d : ℕ} {g : Role} {k : Stack} {q : List ℕ} (r a : List ℕ) (c : Class) (cs : List Class) → OpenString d g k q → ((v : List ℕ) → Seq (c ∷ cs) v → Chars (r ++ (a ++ v))) → (b : ℕ) (z : Bool) → fits c b ≡ z → Good (step_seq z b d g r a cs k) ((q ++ (34 ∷ (r ++ a))) ++ (b ∷ []))
 k_seq r a c cs o f b true e =

@@ -1,6 +1,6 @@
 -- The compact text is the text without the white space outside its strings.
 -- Assumes nothing.
-use Rattle.std.proofs.Common.{◌≡◌, ℕ, ◌≤◌, true, false, cond, eqb, List, [], ◌∷◌, ◌++◌, sym, refl, ap, ◌∙◌, subst, append_assoc, append-nil, arith}
+use Rattle.std.proofs.Common.{◌≡◌, ℕ, ◌≤◌, true, false, cond, eqb, List, [], ◌∷◌, ◌++◌, sym, refl, ap, ◌∙◌, subst, append_assoc, append-nil, arith, Some}
 use Rattle.std.proofs.lemmas.Bool.Decides.{nat_tests}
 use Rattle.grammar.specs.Ast.{Json, Items, Members, also, mnone, malso}
 use Rattle.grammar.specs.Terminals.{within, is_blank, is_digit, is_positive, is_hex, is_d, char_of, behind, first_of, second_of, fits, pair_tail}
@@ -88,10 +88,10 @@ Inner t = Kept InString InString t
 inner_then : (a b : List ℕ) → Inner a → Inner b → Inner (a ++ b)
 inner_then a b f g = kept_then InString InString InString a b f g
 
-plain_kept : (b : ℕ) → char_of b ≡ Plain → Inner (b ∷ [])
+plain_kept : (b : ℕ) → char_of b ≡ Some Plain → Inner (b ∷ [])
 plain_kept b h = calm b (grind (arith, nat_tests)) (grind (arith, nat_tests))
 
-long_kept : (b : ℕ) (l : Lead) → char_of b ≡ Long l → Inner (b ∷ [])
+long_kept : (b : ℕ) (l : Lead) → char_of b ≡ Some (Long l) → Inner (b ∷ [])
 long_kept b l h = calm b (grind (arith, nat_tests)) (grind (arith, nat_tests))
 
 hex-kept : (b : ℕ) → is_hex b ≡ true → Inner (b ∷ [])
@@ -106,16 +106,16 @@ c_kept b h = calm b (grind (arith, nat_tests)) (grind (arith, nat_tests))
 tail-kept : (lo n b : ℕ) → 128 ≤ lo → within lo n b ≡ true → Inner (b ∷ [])
 tail-kept lo n b l h = calm b (grind (arith, nat_tests)) (grind (arith, nat_tests))
 
-first-kept : (b : ℕ) → first_of b ≡ OtherHex → Inner (b ∷ [])
+first-kept : (b : ℕ) → first_of b ≡ Some OtherHex → Inner (b ∷ [])
 first-kept b h = calm b (grind (arith, nat_tests)) (grind (arith, nat_tests))
 
-first_d_kept : (b : ℕ) → first_of b ≡ FirstD → Inner (b ∷ [])
+first_d_kept : (b : ℕ) → first_of b ≡ Some FirstD → Inner (b ∷ [])
 first_d_kept b h = calm b (grind (arith, nat_tests)) (grind (arith, nat_tests))
 
-second_kept : (b : ℕ) → second_of b ≡ second.Whole → Inner (b ∷ [])
+second_kept : (b : ℕ) → second_of b ≡ Some second.Whole → Inner (b ∷ [])
 second_kept b h = calm b (grind (arith, nat_tests)) (grind (arith, nat_tests))
 
-high_kept : (b : ℕ) → second_of b ≡ second.High → Inner (b ∷ [])
+high_kept : (b : ℕ) → second_of b ≡ Some second.High → Inner (b ∷ [])
 high_kept b h = calm b (grind (arith, nat_tests)) (grind (arith, nat_tests))
 
 -- bytes of these classes are neither a quote nor a backslash

@@ -1,6 +1,6 @@
 -- Permitted texts are UTF-8: each token is, and two texts in a row are one.
 -- Assumes nothing.
-use Rattle.std.proofs.Common.{◌≡◌, ℕ, ◌+◌, ◌≤◌, Bool, true, false, cond, ◌&&◌, leb, List, [], ◌∷◌, ◌++◌, sym, refl, ap, ◌∙◌, inl, inr, arith, leb-false, leb-true}
+use Rattle.std.proofs.Common.{◌≡◌, ℕ, ◌+◌, ◌≤◌, Bool, true, false, cond, ◌&&◌, leb, List, [], ◌∷◌, ◌++◌, sym, refl, ap, ◌∙◌, inl, inr, arith, leb-false, leb-true, Some}
 use Rattle.std.proofs.lemmas.Bool.Decides.{nat_tests}
 use Rattle.text.specs.Utf8.{Range, range, inside, of_row, is_text}
 use Rattle.text.proofs.Texts.{both, and, is_inside, inside_low, text_append, text_plain}
@@ -50,10 +50,10 @@ e_low b h = grind (arith, nat_tests)
 sign_low : (b : ℕ) → is_sign b ≡ true → b ≤ 127
 sign_low b h = grind (arith, nat_tests)
 
-plain_low : (b : ℕ) → char_of b ≡ Plain → b ≤ 127
+plain_low : (b : ℕ) → char_of b ≡ Some Plain → b ≤ 127
 plain_low b h = grind (arith, nat_tests)
 
-simple_low : (b : ℕ) → escape_of b ≡ Simple → b ≤ 127
+simple_low : (b : ℕ) → escape_of b ≡ Some Simple → b ≤ 127
 simple_low b h = grind (arith, nat_tests)
 
 hex_low : (b : ℕ) → is_hex b ≡ true → b ≤ 127
@@ -65,16 +65,16 @@ d_low b h = grind (arith, nat_tests)
 c_low : (b : ℕ) → fits CtoF b ≡ true → b ≤ 127
 c_low b h = grind (arith, nat_tests)
 
-first_low : (b : ℕ) → first_of b ≡ OtherHex → b ≤ 127
+first_low : (b : ℕ) → first_of b ≡ Some OtherHex → b ≤ 127
 first_low b h = grind (arith, nat_tests)
 
-first_d_low : (b : ℕ) → first_of b ≡ FirstD → b ≤ 127
+first_d_low : (b : ℕ) → first_of b ≡ Some FirstD → b ≤ 127
 first_d_low b h = grind (arith, nat_tests)
 
-whole_low : (b : ℕ) → second_of b ≡ second.Whole → b ≤ 127
+whole_low : (b : ℕ) → second_of b ≡ Some second.Whole → b ≤ 127
 whole_low b h = grind (arith, nat_tests)
 
-high_low : (b : ℕ) → second_of b ≡ second.High → b ≤ 127
+high_low : (b : ℕ) → second_of b ≡ Some second.High → b ≤ 127
 high_low b h = grind (arith, nat_tests)
 
 -- ---- the bytes behind the first
@@ -118,34 +118,34 @@ seq_low (q_more {c} {cs} {v} b f q) h =
     ascii b v (omega arith) (seq_low q s.1)
 
 -- ---- the rows
-two_in : (b : ℕ) → char_of b ≡ Long lead.Two → (194 ≤ b) × (b ≤ 223)
+two_in : (b : ℕ) → char_of b ≡ Some (Long lead.Two) → (194 ≤ b) × (b ≤ 223)
 two_in b h = (grind (arith, nat_tests), grind (arith, nat_tests))
 
-e0_in : (b : ℕ) → char_of b ≡ Long lead.ThreeE0 → b ≡ 224
+e0_in : (b : ℕ) → char_of b ≡ Some (Long lead.ThreeE0) → b ≡ 224
 e0_in b h = grind (arith, nat_tests)
 
-three_in : (b : ℕ) → char_of b ≡ Long lead.Three → (225 ≤ b) × (b ≤ 239)
+three_in : (b : ℕ) → char_of b ≡ Some (Long lead.Three) → (225 ≤ b) × (b ≤ 239)
 three_in b h = (grind (arith, nat_tests), grind (arith, nat_tests))
 
-three_not : (b : ℕ) → char_of b ≡ Long lead.Three → b ≡ 237 → ⊥
-three_not b h e = let z : char_of 237 ≡ Long lead.Three = ap char_of (sym e) ∙ h in let n : ◌≡◌ {A = ℕ} 0 1 = cc in omega arith
+three_not : (b : ℕ) → char_of b ≡ Some (Long lead.Three) → b ≡ 237 → ⊥
+three_not b h e = let z : char_of 237 ≡ Some (Long lead.Three) = ap char_of (sym e) ∙ h in grind arith
 
-ed_in : (b : ℕ) → char_of b ≡ Long lead.ThreeED → b ≡ 237
+ed_in : (b : ℕ) → char_of b ≡ Some (Long lead.ThreeED) → b ≡ 237
 ed_in b h = grind (arith, nat_tests)
 
-f0_in : (b : ℕ) → char_of b ≡ Long lead.FourF0 → b ≡ 240
+f0_in : (b : ℕ) → char_of b ≡ Some (Long lead.FourF0) → b ≡ 240
 f0_in b h = grind (arith, nat_tests)
 
-four_in : (b : ℕ) → char_of b ≡ Long lead.Four → (241 ≤ b) × (b ≤ 243)
+four_in : (b : ℕ) → char_of b ≡ Some (Long lead.Four) → (241 ≤ b) × (b ≤ 243)
 four_in b h = (grind (arith, nat_tests), grind (arith, nat_tests))
 
-f4_in : (b : ℕ) → char_of b ≡ Long lead.FourF4 → b ≡ 244
+f4_in : (b : ℕ) → char_of b ≡ Some (Long lead.FourF4) → b ≡ 244
 f4_in b h = grind (arith, nat_tests)
 
 row : (r : Range) (b : ℕ) (rs : List Range) (v : List ℕ) → r.low ≤ b → b ≤ r.high → of_row rs v ≡ true → of_row (r ∷ rs) (b ∷ v) ≡ true
 row r b rs v l h e = and (inside r b) (of_row rs v) (is_inside r b l h) e
 
-three : (b : ℕ) {v : List ℕ} → char_of b ≡ Long lead.Three → Seq (behind lead.Three) v → (z : Bool) → leb b 236 ≡ z → Good (b ∷ v)
+three : (b : ℕ) {v : List ℕ} → char_of b ≡ Some (Long lead.Three) → Seq (behind lead.Three) v → (z : Bool) → leb b 236 ≡ z → Good (b ∷ v)
 unfolding ranges range_of
 three b {v} h q true e =
     let t = range 0x80 0xBF in
@@ -159,7 +159,7 @@ three b {v} h q false e =
     let n = three_not b h in
     row_text_lem (range 0xEE 0xEF ∷ t ∷ t ∷ []) (b ∷ v) (inr (inr (inr (inr (inr (inl refl)))))) (row (range 0xEE 0xEF) b (t ∷ t ∷ []) v (omega arith) i.1 (seq_row q))
 
-long_text : (l : Lead) (b : ℕ) {v : List ℕ} → char_of b ≡ Long l → Seq (behind l) v → Good (b ∷ v)
+long_text : (l : Lead) (b : ℕ) {v : List ℕ} → char_of b ≡ Some (Long l) → Seq (behind l) v → Good (b ∷ v)
 unfolding ranges range_of
 long_text lead.Two b {v} h q =
     let i = two_in b h in

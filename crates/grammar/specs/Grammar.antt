@@ -1,6 +1,6 @@
 -- JSON as RFC 8259 has it, with nesting counted: `Shows d j t` says that the bytes t are a writing of j, nested at most d deep. Everything is defined by one more at its right end.
 -- Assumes nothing.
-use Rattle.std.specs.Prelude.{◌≡◌, ℕ, suc, true, List, [], ◌∷◌, ◌++◌}
+use Rattle.std.specs.Prelude.{◌≡◌, ℕ, suc, true, List, [], ◌∷◌, ◌++◌, Some}
 use Rattle.grammar.specs.Ast.{Json, Items, Members, null, tru, fals, num, str, arr, obj, none, also, mnone, malso}
 use Rattle.grammar.specs.Terminals.{is_blank, fits, char_of, behind, escape_of, first_of, second_of, pair_tail}
 use Rattle.grammar.specs.Numbers.{Number}
@@ -25,12 +25,12 @@ pub data Seq : List Class → List ℕ → Type 0 where
 -- what stands between a string's quotes: ASCII but `"` and `\`, longer UTF-8, escapes of one letter, `\u` and four digits that are no surrogate, and pairs of surrogates
 pub data Chars : List ℕ → Type 0 where
   c_none : Chars []
-  c_plain : {r : List ℕ} (b : ℕ) → Chars r → char_of b ≡ Plain → Chars (r ++ (b ∷ []))
-  c_long : {r v : List ℕ} (b : ℕ) (l : Lead) → Chars r → char_of b ≡ Long l → Seq (behind l) v → Chars (r ++ (b ∷ v))
-  c_escape : {r : List ℕ} (b : ℕ) → Chars r → escape_of b ≡ Simple → Chars (r ++ (92 ∷ b ∷ []))
-  c_unit : {r v : List ℕ} (b : ℕ) → Chars r → first_of b ≡ OtherHex → Seq (Hex ∷ Hex ∷ Hex ∷ []) v → Chars (r ++ (92 ∷ 117 ∷ b ∷ v))
-  c_unit_d : {r v : List ℕ} (b e : ℕ) → Chars r → first_of b ≡ FirstD → second_of e ≡ Whole → Seq (Hex ∷ Hex ∷ []) v → Chars (r ++ (92 ∷ 117 ∷ b ∷ e ∷ v))
-  c_pair : {r v : List ℕ} (b e : ℕ) → Chars r → first_of b ≡ FirstD → second_of e ≡ High → Seq pair_tail v → Chars (r ++ (92 ∷ 117 ∷ b ∷ e ∷ v))
+  c_plain : {r : List ℕ} (b : ℕ) → Chars r → char_of b ≡ Some Plain → Chars (r ++ (b ∷ []))
+  c_long : {r v : List ℕ} (b : ℕ) (l : Lead) → Chars r → char_of b ≡ Some (Long l) → Seq (behind l) v → Chars (r ++ (b ∷ v))
+  c_escape : {r : List ℕ} (b : ℕ) → Chars r → escape_of b ≡ Some Simple → Chars (r ++ (92 ∷ b ∷ []))
+  c_unit : {r v : List ℕ} (b : ℕ) → Chars r → first_of b ≡ Some OtherHex → Seq (Hex ∷ Hex ∷ Hex ∷ []) v → Chars (r ++ (92 ∷ 117 ∷ b ∷ v))
+  c_unit_d : {r v : List ℕ} (b e : ℕ) → Chars r → first_of b ≡ Some FirstD → second_of e ≡ Some Whole → Seq (Hex ∷ Hex ∷ []) v → Chars (r ++ (92 ∷ 117 ∷ b ∷ e ∷ v))
+  c_pair : {r v : List ℕ} (b e : ℕ) → Chars r → first_of b ≡ Some FirstD → second_of e ≡ Some High → Seq pair_tail v → Chars (r ++ (92 ∷ 117 ∷ b ∷ e ∷ v))
 
 -- a name with white space on either side
 pub data Named : List ℕ → List ℕ → Type 0 where

@@ -1,27 +1,25 @@
 -- A pushdown automaton that reads JSON byte by byte, and stops before the first byte that no text continues with.
 -- Assumes nothing.
-use Rattle.std.specs.Prelude.{ℕ, zero, suc, Bool, true, false, List, [], ◌∷◌, ◌++◌, ◌==◌}
+use Rattle.std.specs.Prelude.{ℕ, zero, suc, Bool, true, false, List, [], ◌∷◌, ◌++◌, ◌==◌, Some, None, Option}
 use Rattle.grammar.specs.Ast.{Json, Items, Members, null, tru, fals, num, str, arr, obj, none, also, mnone, malso}
 use Rattle.grammar.specs.Terminals.{start_of, punct_of, fits, char_of, behind, escape_of, first_of, second_of, pair_tail}
 use Rattle.grammar.specs.Numbers.{next, may_end}
 use Rattle.grammar.specs.declared.kinds.Start.{Start}
-use Rattle.grammar.specs.declared.kinds.Start.TheVariants.{Blank, Quote, Minus, Zero, Positive, OpenArray, OpenObject, LitT, LitF, LitN, NoStart}
+use Rattle.grammar.specs.declared.kinds.Start.TheVariants.{Blank, Quote, Minus, Zero, Positive, OpenArray, OpenObject, LitT, LitF, LitN}
 use Rattle.grammar.specs.declared.kinds.Punct.{Punct}
-use Rattle.grammar.specs.declared.kinds.Punct.TheVariants.{Space, One, Two, NoPunct}
+use Rattle.grammar.specs.declared.kinds.Punct.TheVariants.{Space, One, Two}
 use Rattle.grammar.specs.declared.kinds.Class.{Class}
 use Rattle.grammar.specs.declared.kinds.Class.TheVariants.{Hex}
 use Rattle.grammar.specs.declared.kinds.Char.{Char}
-use Rattle.grammar.specs.declared.kinds.Char.TheVariants.{Plain, EndQuote, Back, Long, NoChar}
+use Rattle.grammar.specs.declared.kinds.Char.TheVariants.{Plain, EndQuote, Back, Long}
 use Rattle.grammar.specs.declared.kinds.Escape.{Escape}
-use Rattle.grammar.specs.declared.kinds.Escape.TheVariants.{Simple, CodeUnit, NoEscape}
+use Rattle.grammar.specs.declared.kinds.Escape.TheVariants.{Simple, CodeUnit}
 use Rattle.grammar.specs.declared.kinds.FirstHex.{FirstHex}
-use Rattle.grammar.specs.declared.kinds.FirstHex.TheVariants.{FirstD, OtherHex, NoFirst}
+use Rattle.grammar.specs.declared.kinds.FirstHex.TheVariants.{FirstD, OtherHex}
 use Rattle.grammar.specs.declared.kinds.SecondHex.{SecondHex}
-use Rattle.grammar.specs.declared.kinds.SecondHex.TheVariants.{Whole, High, NoSecond}
+use Rattle.grammar.specs.declared.kinds.SecondHex.TheVariants.{Whole, High}
 use Rattle.grammar.specs.declared.kinds.Phase.{Phase}
 use Rattle.grammar.specs.declared.kinds.Phase.TheVariants.{AtMinus, AtZero, AtWhole}
-use Rattle.grammar.specs.declared.kinds.Turn.{Turn}
-use Rattle.grammar.specs.declared.kinds.Turn.TheVariants.{Stop, To}
 
 -- An open array with its items so far, or an open object with its members so far and the name whose value is to come.
 pub data Frame : Type 0 where
@@ -69,60 +67,60 @@ abbrev pub open_object : ℕ → Stack → Next
 open_object zero k = bad
 open_object (suc d) k = go (members d k)
 
-abbrev pub step_val : Start → ℕ → ℕ → Stack → Next
-step_val Blank b d k = go (val d k)
-step_val Quote b d k = go (chars d value [] k)
-step_val Minus b d k = go (nums d AtMinus (b ∷ []) k)
-step_val Zero b d k = go (nums d AtZero (b ∷ []) k)
-step_val Positive b d k = go (nums d AtWhole (b ∷ []) k)
-step_val OpenArray b d k = open_array d k
-step_val OpenObject b d k = open_object d k
-step_val LitT b d k = go (lit d (114 ∷ 117 ∷ 101 ∷ []) tru k)
-step_val LitF b d k = go (lit d (97 ∷ 108 ∷ 115 ∷ 101 ∷ []) fals k)
-step_val LitN b d k = go (lit d (117 ∷ 108 ∷ 108 ∷ []) null k)
-step_val NoStart b d k = bad
+abbrev pub step_val : Option Start → ℕ → ℕ → Stack → Next
+step_val (Some Blank) b d k = go (val d k)
+step_val (Some Quote) b d k = go (chars d value [] k)
+step_val (Some Minus) b d k = go (nums d AtMinus (b ∷ []) k)
+step_val (Some Zero) b d k = go (nums d AtZero (b ∷ []) k)
+step_val (Some Positive) b d k = go (nums d AtWhole (b ∷ []) k)
+step_val (Some OpenArray) b d k = open_array d k
+step_val (Some OpenObject) b d k = open_object d k
+step_val (Some LitT) b d k = go (lit d (114 ∷ 117 ∷ 101 ∷ []) tru k)
+step_val (Some LitF) b d k = go (lit d (97 ∷ 108 ∷ 115 ∷ 101 ∷ []) fals k)
+step_val (Some LitN) b d k = go (lit d (117 ∷ 108 ∷ 108 ∷ []) null k)
+step_val None b d k = bad
 
-abbrev pub step_first : Punct → ℕ → ℕ → Stack → Next
-step_first Space b d k = go (first d k)
-step_first One b d k = go (aft (suc d) (arr none) k)
-step_first Two b d k = go (aft (suc d) (arr none) k)
-step_first NoPunct b d k = step_val (start_of b) b d (in_arr none ∷ k)
+abbrev pub step_first : Option Punct → ℕ → ℕ → Stack → Next
+step_first (Some Space) b d k = go (first d k)
+step_first (Some One) b d k = go (aft (suc d) (arr none) k)
+step_first (Some Two) b d k = go (aft (suc d) (arr none) k)
+step_first None b d k = step_val (start_of b) b d (in_arr none ∷ k)
 
-abbrev pub step_members : Punct → ℕ → Stack → Next
-step_members Space d k = go (members d k)
-step_members One d k = go (chars d (name mnone) [] k)
-step_members Two d k = go (aft (suc d) (obj mnone) k)
-step_members NoPunct d k = bad
+abbrev pub step_members : Option Punct → ℕ → Stack → Next
+step_members (Some Space) d k = go (members d k)
+step_members (Some One) d k = go (chars d (name mnone) [] k)
+step_members (Some Two) d k = go (aft (suc d) (obj mnone) k)
+step_members None d k = bad
 
-abbrev pub step_member : Punct → ℕ → Members → Stack → Next
-step_member Space d ms k = go (member d ms k)
-step_member One d ms k = go (chars d (name ms) [] k)
-step_member Two d ms k = go (chars d (name ms) [] k)
-step_member NoPunct d ms k = bad
+abbrev pub step_member : Option Punct → ℕ → Members → Stack → Next
+step_member (Some Space) d ms k = go (member d ms k)
+step_member (Some One) d ms k = go (chars d (name ms) [] k)
+step_member (Some Two) d ms k = go (chars d (name ms) [] k)
+step_member None d ms k = bad
 
-abbrev pub step_colon : Punct → ℕ → Members → List ℕ → Stack → Next
-step_colon Space d ms n k = go (colon d ms n k)
-step_colon One d ms n k = go (val d (in_obj ms n ∷ k))
-step_colon Two d ms n k = go (val d (in_obj ms n ∷ k))
-step_colon NoPunct d ms n k = bad
+abbrev pub step_colon : Option Punct → ℕ → Members → List ℕ → Stack → Next
+step_colon (Some Space) d ms n k = go (colon d ms n k)
+step_colon (Some One) d ms n k = go (val d (in_obj ms n ∷ k))
+step_colon (Some Two) d ms n k = go (val d (in_obj ms n ∷ k))
+step_colon None d ms n k = bad
 
-abbrev pub step_item : Punct → ℕ → Json → Items → Stack → Next
-step_item Space d j xs k = go (aft d j (in_arr xs ∷ k))
-step_item One d j xs k = go (val d (in_arr (also xs j) ∷ k))
-step_item Two d j xs k = go (aft (suc d) (arr (also xs j)) k)
-step_item NoPunct d j xs k = bad
+abbrev pub step_item : Option Punct → ℕ → Json → Items → Stack → Next
+step_item (Some Space) d j xs k = go (aft d j (in_arr xs ∷ k))
+step_item (Some One) d j xs k = go (val d (in_arr (also xs j) ∷ k))
+step_item (Some Two) d j xs k = go (aft (suc d) (arr (also xs j)) k)
+step_item None d j xs k = bad
 
-abbrev pub step_pair : Punct → ℕ → Json → Members → List ℕ → Stack → Next
-step_pair Space d j ms n k = go (aft d j (in_obj ms n ∷ k))
-step_pair One d j ms n k = go (member d (malso ms n j) k)
-step_pair Two d j ms n k = go (aft (suc d) (obj (malso ms n j)) k)
-step_pair NoPunct d j ms n k = bad
+abbrev pub step_pair : Option Punct → ℕ → Json → Members → List ℕ → Stack → Next
+step_pair (Some Space) d j ms n k = go (aft d j (in_obj ms n ∷ k))
+step_pair (Some One) d j ms n k = go (member d (malso ms n j) k)
+step_pair (Some Two) d j ms n k = go (aft (suc d) (obj (malso ms n j)) k)
+step_pair None d j ms n k = bad
 
-abbrev pub step_top : Punct → ℕ → Json → Next
-step_top Space d j = go (aft d j [])
-step_top One d j = bad
-step_top Two d j = bad
-step_top NoPunct d j = bad
+abbrev pub step_top : Option Punct → ℕ → Json → Next
+step_top (Some Space) d j = go (aft d j [])
+step_top (Some One) d j = bad
+step_top (Some Two) d j = bad
+step_top None d j = bad
 
 abbrev pub step_in : Frame → ℕ → ℕ → Json → Stack → Next
 step_in (in_arr xs) b d j k = step_item (punct_of 44 93 b) d j xs k
@@ -137,9 +135,9 @@ abbrev pub end_nums : Bool → ℕ → ℕ → List ℕ → Stack → Next
 end_nums true b d r k = step_aft b d (num r) k
 end_nums false b d r k = bad
 
-abbrev pub step_nums : Turn → ℕ → ℕ → Phase → List ℕ → Stack → Next
-step_nums (To q) b d p r k = go (nums d q (r ++ (b ∷ [])) k)
-step_nums Stop b d p r k = end_nums (may_end p) b d r k
+abbrev pub step_nums : Option Phase → ℕ → ℕ → Phase → List ℕ → Stack → Next
+step_nums (Some q) b d p r k = go (nums d q (r ++ (b ∷ [])) k)
+step_nums None b d p r k = end_nums (may_end p) b d r k
 
 abbrev pub end_string : Role → ℕ → List ℕ → Stack → St
 end_string value d r k = aft d (str r) k
@@ -154,27 +152,27 @@ abbrev pub step_seq : Bool → ℕ → ℕ → Role → List ℕ → List ℕ �
 step_seq true b d g r a cs k = go (seq_go cs d g r (a ++ (b ∷ [])) k)
 step_seq false b d g r a cs k = bad
 
-abbrev pub step_chars : Char → ℕ → ℕ → Role → List ℕ → Stack → Next
-step_chars Plain b d g r k = go (chars d g (r ++ (b ∷ [])) k)
-step_chars EndQuote b d g r k = go (end_string g d r k)
-step_chars Back b d g r k = go (esc d g r k)
-step_chars (Long l) b d g r k = go (seq_go (behind l) d g r (b ∷ []) k)
-step_chars NoChar b d g r k = bad
+abbrev pub step_chars : Option Char → ℕ → ℕ → Role → List ℕ → Stack → Next
+step_chars (Some Plain) b d g r k = go (chars d g (r ++ (b ∷ [])) k)
+step_chars (Some EndQuote) b d g r k = go (end_string g d r k)
+step_chars (Some Back) b d g r k = go (esc d g r k)
+step_chars (Some (Long l)) b d g r k = go (seq_go (behind l) d g r (b ∷ []) k)
+step_chars None b d g r k = bad
 
-abbrev pub step_esc : Escape → ℕ → ℕ → Role → List ℕ → Stack → Next
-step_esc Simple b d g r k = go (chars d g (r ++ (92 ∷ b ∷ [])) k)
-step_esc CodeUnit b d g r k = go (uni d g r k)
-step_esc NoEscape b d g r k = bad
+abbrev pub step_esc : Option Escape → ℕ → ℕ → Role → List ℕ → Stack → Next
+step_esc (Some Simple) b d g r k = go (chars d g (r ++ (92 ∷ b ∷ [])) k)
+step_esc (Some CodeUnit) b d g r k = go (uni d g r k)
+step_esc None b d g r k = bad
 
-abbrev pub step_uni : FirstHex → ℕ → ℕ → Role → List ℕ → Stack → Next
-step_uni FirstD b d g r k = go (uni_d d g r b k)
-step_uni OtherHex b d g r k = go (seq d g r (92 ∷ 117 ∷ b ∷ []) Hex (Hex ∷ Hex ∷ []) k)
-step_uni NoFirst b d g r k = bad
+abbrev pub step_uni : Option FirstHex → ℕ → ℕ → Role → List ℕ → Stack → Next
+step_uni (Some FirstD) b d g r k = go (uni_d d g r b k)
+step_uni (Some OtherHex) b d g r k = go (seq d g r (92 ∷ 117 ∷ b ∷ []) Hex (Hex ∷ Hex ∷ []) k)
+step_uni None b d g r k = bad
 
-abbrev pub step_uni_d : SecondHex → ℕ → ℕ → Role → List ℕ → ℕ → Stack → Next
-step_uni_d Whole e d g r b k = go (seq_go (Hex ∷ Hex ∷ []) d g r (92 ∷ 117 ∷ b ∷ e ∷ []) k)
-step_uni_d High e d g r b k = go (seq_go pair_tail d g r (92 ∷ 117 ∷ b ∷ e ∷ []) k)
-step_uni_d NoSecond e d g r b k = bad
+abbrev pub step_uni_d : Option SecondHex → ℕ → ℕ → Role → List ℕ → ℕ → Stack → Next
+step_uni_d (Some Whole) e d g r b k = go (seq_go (Hex ∷ Hex ∷ []) d g r (92 ∷ 117 ∷ b ∷ e ∷ []) k)
+step_uni_d (Some High) e d g r b k = go (seq_go pair_tail d g r (92 ∷ 117 ∷ b ∷ e ∷ []) k)
+step_uni_d None e d g r b k = bad
 
 abbrev pub lit_end : ℕ → List ℕ → Json → Stack → St
 lit_end d [] j k = aft d j k

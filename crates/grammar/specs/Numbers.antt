@@ -1,11 +1,9 @@
 -- Numbers as RFC 8259 writes them, and the phases in which their bytes are read.
 -- Assumes nothing.
-use Rattle.std.specs.Prelude.{◌≡◌, ℕ, Bool, true, false, cond, List, [], ◌∷◌, ◌++◌, ◌==◌}
+use Rattle.std.specs.Prelude.{◌≡◌, ℕ, Bool, true, false, cond, List, [], ◌∷◌, ◌++◌, ◌==◌, Some, None, Option}
 use Rattle.grammar.specs.Terminals.{is_digit, is_positive}
 use Rattle.grammar.specs.declared.kinds.Phase.{Phase}
 use Rattle.grammar.specs.declared.kinds.Phase.TheVariants.{AtMinus, AtZero, AtWhole, AtPoint, AtFraction, AtE, AtSign, AtExponent}
-use Rattle.grammar.specs.declared.kinds.Turn.{Turn}
-use Rattle.grammar.specs.declared.kinds.Turn.TheVariants.{Stop, To}
 
 abbrev pub is_e : ℕ → Bool
 is_e b = cond (b == 101) true (b == 69)
@@ -46,23 +44,23 @@ pub data Number : List ℕ → Type 0 where
 
 -- ---- the same byte by byte
 
-abbrev pub next_digit : Phase → ℕ → Turn
-next_digit p b = cond (is_digit b) (To p) Stop
+abbrev pub next_digit : Phase → ℕ → Option Phase
+next_digit p b = cond (is_digit b) (Some p) None
 
-abbrev pub next_e : ℕ → Turn
-next_e b = cond (is_e b) (To AtE) Stop
+abbrev pub next_e : ℕ → Option Phase
+next_e b = cond (is_e b) (Some AtE) None
 
-abbrev pub next_point : ℕ → Turn
-next_point b = cond (b == 46) (To AtPoint) (next_e b)
+abbrev pub next_point : ℕ → Option Phase
+next_point b = cond (b == 46) (Some AtPoint) (next_e b)
 
 -- what a byte does to a number that has come so far
-abbrev pub next : Phase → ℕ → Turn
-next AtMinus b = cond (b == 48) (To AtZero) (cond (is_positive b) (To AtWhole) Stop)
+abbrev pub next : Phase → ℕ → Option Phase
+next AtMinus b = cond (b == 48) (Some AtZero) (cond (is_positive b) (Some AtWhole) None)
 next AtZero b = next_point b
-next AtWhole b = cond (is_digit b) (To AtWhole) (next_point b)
+next AtWhole b = cond (is_digit b) (Some AtWhole) (next_point b)
 next AtPoint b = next_digit AtFraction b
-next AtFraction b = cond (is_digit b) (To AtFraction) (next_e b)
-next AtE b = cond (is_sign b) (To AtSign) (next_digit AtExponent b)
+next AtFraction b = cond (is_digit b) (Some AtFraction) (next_e b)
+next AtE b = cond (is_sign b) (Some AtSign) (next_digit AtExponent b)
 next AtSign b = next_digit AtExponent b
 next AtExponent b = next_digit AtExponent b
 

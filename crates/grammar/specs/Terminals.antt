@@ -1,22 +1,22 @@
 -- The bytes of JSON's terminals, by the places where they are met.
 -- Assumes nothing.
-use Rattle.std.specs.Prelude.{ℕ, ◌+◌, Bool, true, false, cond, List, [], ◌∷◌, ◌==◌, nat_le}
+use Rattle.std.specs.Prelude.{ℕ, ◌+◌, Bool, true, false, cond, List, [], ◌∷◌, ◌==◌, nat_le, Some, None, Option}
 use Rattle.grammar.specs.declared.kinds.Start.{Start}
-use Rattle.grammar.specs.declared.kinds.Start.TheVariants.{Blank, Quote, Minus, Zero, Positive, OpenArray, OpenObject, LitT, LitF, LitN, NoStart}
+use Rattle.grammar.specs.declared.kinds.Start.TheVariants.{Blank, Quote, Minus, Zero, Positive, OpenArray, OpenObject, LitT, LitF, LitN}
 use Rattle.grammar.specs.declared.kinds.Punct.{Punct}
-use Rattle.grammar.specs.declared.kinds.Punct.TheVariants.{Space, One, Two, NoPunct}
+use Rattle.grammar.specs.declared.kinds.Punct.TheVariants.{Space, One, Two}
 use Rattle.grammar.specs.declared.kinds.Class.{Class}
 use Rattle.grammar.specs.declared.kinds.Class.TheVariants.{In, Hex, IsD, CtoF}
 use Rattle.grammar.specs.declared.kinds.Lead.{Lead}
 use Rattle.grammar.specs.declared.kinds.Lead.TheVariants as lead
 use Rattle.grammar.specs.declared.kinds.Char.{Char}
-use Rattle.grammar.specs.declared.kinds.Char.TheVariants.{Plain, EndQuote, Back, Long, NoChar}
+use Rattle.grammar.specs.declared.kinds.Char.TheVariants.{Plain, EndQuote, Back, Long}
 use Rattle.grammar.specs.declared.kinds.Escape.{Escape}
-use Rattle.grammar.specs.declared.kinds.Escape.TheVariants.{Simple, CodeUnit, NoEscape}
+use Rattle.grammar.specs.declared.kinds.Escape.TheVariants.{Simple, CodeUnit}
 use Rattle.grammar.specs.declared.kinds.FirstHex.{FirstHex}
-use Rattle.grammar.specs.declared.kinds.FirstHex.TheVariants.{FirstD, OtherHex, NoFirst}
+use Rattle.grammar.specs.declared.kinds.FirstHex.TheVariants.{FirstD, OtherHex}
 use Rattle.grammar.specs.declared.kinds.SecondHex.{SecondHex}
-use Rattle.grammar.specs.declared.kinds.SecondHex.TheVariants.{Whole, High, NoSecond}
+use Rattle.grammar.specs.declared.kinds.SecondHex.TheVariants.{Whole, High}
 
 -- from lo to lo + n
 abbrev pub within : ℕ → ℕ → ℕ → Bool
@@ -35,17 +35,17 @@ is_positive b = cond (nat_le 49 b) (nat_le b 57) false
 abbrev pub is_hex : ℕ → Bool
 is_hex b = cond (within 48 9 b) true (cond (within 65 5 b) true (within 97 5 b))
 
-abbrev pub start_of : ℕ → Start
+abbrev pub start_of : ℕ → Option Start
 start_of b =
-    cond (is_blank b) Blank
-    (cond (b == 34) Quote
-    (cond (b == 45) Minus
-    (cond (b == 48) Zero
-    (cond (is_positive b) Positive
-    (cond (b == 91) OpenArray (cond (b == 123) OpenObject (cond (b == 116) LitT (cond (b == 102) LitF (cond (b == 110) LitN NoStart)))))))))
+    cond (is_blank b) (Some Blank)
+    (cond (b == 34) (Some Quote)
+    (cond (b == 45) (Some Minus)
+    (cond (b == 48) (Some Zero)
+    (cond (is_positive b) (Some Positive)
+    (cond (b == 91) (Some OpenArray) (cond (b == 123) (Some OpenObject) (cond (b == 116) (Some LitT) (cond (b == 102) (Some LitF) (cond (b == 110) (Some LitN) None)))))))))
 
-abbrev pub punct_of : ℕ → ℕ → ℕ → Punct
-punct_of one two b = cond (is_blank b) Space (cond (b == one) One (cond (b == two) Two NoPunct))
+abbrev pub punct_of : ℕ → ℕ → ℕ → Option Punct
+punct_of one two b = cond (is_blank b) (Some Space) (cond (b == one) (Some One) (cond (b == two) (Some Two) None))
 
 abbrev pub tail : Class
 tail = In 128 63
@@ -60,19 +60,19 @@ behind lead.FourF0 = In 144 47 ∷ tail ∷ tail ∷ []
 behind lead.Four = tail ∷ tail ∷ tail ∷ []
 behind lead.FourF4 = In 128 15 ∷ tail ∷ tail ∷ []
 
-abbrev pub long_of : ℕ → Char
+abbrev pub long_of : ℕ → Option Char
 long_of b =
-    cond (within 194 29 b) (Long lead.Two)
-    (cond (b == 224) (Long lead.ThreeE0)
-    (cond (within 225 11 b) (Long lead.Three)
-    (cond (b == 237) (Long lead.ThreeED)
-    (cond (within 238 1 b) (Long lead.Three)
-    (cond (b == 240) (Long lead.FourF0)
-    (cond (within 241 2 b) (Long lead.Four) (cond (b == 244) (Long lead.FourF4) NoChar)))))))
+    cond (within 194 29 b) (Some (Long lead.Two))
+    (cond (b == 224) (Some (Long lead.ThreeE0))
+    (cond (within 225 11 b) (Some (Long lead.Three))
+    (cond (b == 237) (Some (Long lead.ThreeED))
+    (cond (within 238 1 b) (Some (Long lead.Three))
+    (cond (b == 240) (Some (Long lead.FourF0))
+    (cond (within 241 2 b) (Some (Long lead.Four)) (cond (b == 244) (Some (Long lead.FourF4)) None)))))))
 
 -- control characters below 32 stand in no string
-abbrev pub char_of : ℕ → Char
-char_of b = cond (b == 34) EndQuote (cond (b == 92) Back (cond (within 32 95 b) Plain (long_of b)))
+abbrev pub char_of : ℕ → Option Char
+char_of b = cond (b == 34) (Some EndQuote) (cond (b == 92) (Some Back) (cond (within 32 95 b) (Some Plain) (long_of b)))
 
 -- `"`, `\`, `/`, `b`, `f`, `n`, `r`, `t`
 abbrev pub is_simple : ℕ → Bool
@@ -80,17 +80,17 @@ is_simple b =
     cond (b == 34) true
     (cond (b == 92) true (cond (b == 47) true (cond (b == 98) true (cond (b == 102) true (cond (b == 110) true (cond (b == 114) true (b == 116)))))))
 
-abbrev pub escape_of : ℕ → Escape
-escape_of b = cond (is_simple b) Simple (cond (b == 117) CodeUnit NoEscape)
+abbrev pub escape_of : ℕ → Option Escape
+escape_of b = cond (is_simple b) (Some Simple) (cond (b == 117) (Some CodeUnit) None)
 
 abbrev pub is_d : ℕ → Bool
 is_d b = cond (b == 68) true (b == 100)
 
-abbrev pub first_of : ℕ → FirstHex
-first_of b = cond (is_d b) FirstD (cond (is_hex b) OtherHex NoFirst)
+abbrev pub first_of : ℕ → Option FirstHex
+first_of b = cond (is_d b) (Some FirstD) (cond (is_hex b) (Some OtherHex) None)
 
-abbrev pub second_of : ℕ → SecondHex
-second_of b = cond (within 48 7 b) Whole (cond (within 56 1 b) High (cond (within 65 1 b) High (cond (within 97 1 b) High NoSecond)))
+abbrev pub second_of : ℕ → Option SecondHex
+second_of b = cond (within 48 7 b) (Some Whole) (cond (within 56 1 b) (Some High) (cond (within 65 1 b) (Some High) (cond (within 97 1 b) (Some High) None)))
 
 abbrev pub fits : Class → ℕ → Bool
 fits (In lo n) b = within lo n b

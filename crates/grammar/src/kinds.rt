@@ -1,6 +1,6 @@
-// The kinds of bytes that the grammar of JSON tells apart. Its definitions go by them, and so does the reader.
+// The kinds of bytes that the grammar of JSON tells apart. Its definitions go by them, and so does the reader; a byte of no kind that may stand there is `None`.
 
-// Where a value is expected: white space, the first byte of a value, or none.
+// Where a value is expected: white space, or the first byte of a value.
 #[derive(Clone, Copy)]
 pub enum Start {
     Blank,
@@ -13,16 +13,14 @@ pub enum Start {
     LitT,
     LitF,
     LitN,
-    NoStart,
 }
 
-// Where one of two given bytes is expected.
+// Where one of two given bytes is expected: white space, or one of the two.
 #[derive(Clone, Copy)]
 pub enum Punct {
     Space,
     One,
     Two,
-    NoPunct,
 }
 
 // What one byte of a longer character may be: a byte of the range that begins at the first number and is the second longer than one byte, a hexadecimal digit, `D`, or `C` to `F`.
@@ -53,15 +51,13 @@ pub enum Char {
     EndQuote,
     Back,
     Long(Lead),
-    NoChar,
 }
 
-// Behind a backslash: a letter that stands for one character, the `u` of a code unit, or neither.
+// Behind a backslash: a letter that stands for one character, or the `u` of a code unit.
 #[derive(Clone, Copy)]
 pub enum Escape {
     Simple,
     CodeUnit,
-    NoEscape,
 }
 
 // The first digit of a code unit: `D`, with which surrogates begin, or another.
@@ -69,7 +65,6 @@ pub enum Escape {
 pub enum FirstHex {
     FirstD,
     OtherHex,
-    NoFirst,
 }
 
 // The second digit behind a `D`: `0` to `7` is no surrogate, `8` to `B` the first of a pair.
@@ -77,7 +72,6 @@ pub enum FirstHex {
 pub enum SecondHex {
     Whole,
     High,
-    NoSecond,
 }
 
 // How far a number has come: past its minus, its zero, the digits of its whole part, its point, the digits behind that, its `e`, the sign behind that, the digits of its exponent.
@@ -91,13 +85,6 @@ pub enum Phase {
     AtE,
     AtSign,
     AtExponent,
-}
-
-// What a byte does in a number: the number goes on, or does not.
-#[derive(Clone, Copy)]
-pub enum Turn {
-    Stop,
-    To(Phase),
 }
 
 // Where a byte of a text stands: between or in tokens other than strings, in a string, or in a string behind a backslash.

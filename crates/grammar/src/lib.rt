@@ -4,7 +4,7 @@
 mod kinds;
 mod laws;
 
-pub use kinds::{Char, Class, Escape, FirstHex, Lead, Phase, Place, Punct, SecondHex, Start, Turn};
+pub use kinds::{Char, Class, Escape, FirstHex, Lead, Phase, Place, Punct, SecondHex, Start};
 pub use laws::{
     compact_text_drops_white_space, compact_text_stays, objects_end_by_themselves, one_tree,
     text_or_longest_start, texts_are_read, texts_are_utf8,

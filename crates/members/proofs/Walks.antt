@@ -1,76 +1,120 @@
 -- Members one by one, and the one that is looked for.
 -- Assumes nothing.
-use Rattle.std.proofs.Common.{◌≡◌, ℕ, suc, ◌+◌, ◌-◌, ◌<◌, ◌≤◌, Bool, true, false, cond, List, [], ◌∷◌, ◌++◌, length, get_or, take, drop, Some, None, Option, sym, refl, ap, ◌∙◌, subst, append_assoc, arith, length-append, length-drop, take_at}
-use Rattle.std.specs.List.{between}
-use Rattle.std.proofs.lemmas.List.{drop_more, drop_all}
+use Rattle.std.proofs.Common.{◌≡◌, ℕ, suc, ◌+◌, ◌-◌, ◌<◌, ◌≤◌, Bool, true, false, cond, List, [], ◌∷◌, ◌++◌, length, take, drop, Some, None, Option, sym, refl, ap, ◌∙◌, subst, append_assoc, arith, length-append, length-drop, take-append-drop}
+use Rattle.std.proofs.lemmas.List.{drop_all}
+use Rattle.std.specs.List.{slice_range}
+use Rattle.std.specs.Option.{option_or}
+use Rattle.std.specs.Bool.{then_some}
 use Rattle.text.specs.Bytes.{same}
 use Rattle.grammar.specs.Ast.{Json, Members, obj, mnone, malso}
 use Rattle.grammar.specs.Grammar.{Ws, w_none as nothing, w_more, Shows, s_obj0, s_obj, Padded, padded}
-use Rattle.grammar.specs.Machine.{val, members, step_val}
-use Rattle.grammar.specs.Terminals.{start_of}
+use Rattle.grammar.specs.Machine.{val, members}
 use Rattle.grammar.proofs.Complete.{ws_val}
 use Rattle.grammar.proofs.Fronts.{objects_end}
-use Rattle.documents.specs.Reading.{Part, Refuses, NoBlank, AnyValue, AnyObject, GotValue, GotName, ReadyPair}
+use Rattle.grammar.proofs.Places.{left_over, place_of}
+use Rattle.documents.specs.Reading.{Part, Refuses, NoBlank, Unlike, AnyValue, AnyObject, GotValue, GotName, ReadyPair}
+use Rattle.documents.specs.declared.fault.DocumentFault.{DocumentFault}
+use Rattle.documents.specs.declared.fault.DocumentFault.TheVariants.{Syntax}
 use Rattle.documents.proofs.Parts.{skip, go_at}
+use Rattle.documents.proofs.Spaces.{to_end}
+use Rattle.documents.proofs.Words.{SameByte, not_is}
 use Rattle.documents.proofs.Objects.{AtName, PastPair, o_none, o_begin, o_name, o_pair, o_close, o_next}
 use Rattle.names.specs.Undone.{undone}
 use Rattle.names.specs.declared.undone.Undoing.TheVariants.{Plain}
-use Rattle.members.specs.LookUp.{is_name, or_else, kept, Seen, Looked, bare, LookedUp}
+use Rattle.members.specs.LookUp.{is_name, or_else, Between, Seen, Looked, bare, LookedUp, FaultAt}
 use Rattle.members.specs.Laws.{LookUpsTell}
 use Rattle.members.specs.declared.cursor.Cursor.{Cursor}
 use Rattle.members.specs.declared.walk.ValuePlace.{ValuePlace}
 
+-- ---- places counted from the front
+-- r is what s leaves behind its first bytes
+abbrev pub Rest : List ℕ → List ℕ → Type 0
+Rest s r = (p : List ℕ) × (s ≡ p ++ r)
+
+pub rest_len : (s r : List ℕ) → Rest s r → length r ≤ length s
+rest_len s r x = omega (arith, ap length x.1, length-append x.0 r)
+
+pub rest_drop : (s : List ℕ) (a : ℕ) → Rest s (drop a s)
+rest_drop s a = (take a s, sym (take-append-drop a s))
+
+pub rest_part : {P : List ℕ → Type 0} (s r q : List ℕ) → Rest s r → Part P r q → Rest s q
+rest_part s r q x p = (x.0 ++ p.text, x.1 ∙ (ap (λ (y : List ℕ). x.0 ++ y) p.splits ∙ sym (append_assoc x.0 p.text q)))
+
+part_len : {P : List ℕ → Type 0} (r q : List ℕ) → Part P r q → length q ≤ length r
+part_len r q p = omega (arith, ap length p.splits, length-append p.text q)
+
+-- a part, by its places
+between_at : {P : List ℕ → Type 0} (s r q : List ℕ) → Rest s r → Part P r q → Between P s (length s - length r) (length s - length q)
+between_at {P} s r q x p =
+    let y = rest_part s r q x p in
+    let f = place_of s x.0 r x.1 in
+    let g = place_of s y.0 q y.1 in
+    record {
+      part = subst (λ (u : List ℕ). Part P u (drop (length s - length q) s)) (sym f.1) (subst (λ (u : List ℕ). Part P r u) (sym g.1) p);
+      low = omega (arith, part_len r q p);
+      high = g.0;
+    }
+
+between_from : {P : List ℕ → Type 0} (s : List ℕ) (a : ℕ) (q : List ℕ) → a ≤ length s → Part P (drop a s) q → Between P s a (length s - length q)
+between_from {P} s a q h p =
+    let same : length s - length (drop a s) ≡ a = omega (arith, length-drop a s, h) in
+    subst (λ (i : ℕ). Between P s i (length s - length q)) same (between_at s (drop a s) q (rest_drop s a) p)
+
+-- a slice from a place on
+pub from_place : {P : List ℕ → Type 0} (s : List ℕ) (a : ℕ) (r : List ℕ) → Part P (take (length s - a) (drop a s)) r → Part P (drop a s) r
+from_place {P} s a r p = subst (λ (x : List ℕ). Part P x r) (to_end s a) p
+
+pub from_get : {P : List ℕ → Type 0} (s : List ℕ) (a : ℕ) (b r : List ℕ) → b ≡ slice_range s a (length s) → Part P b r → Part P (drop a s) r
+from_get {P} s a b r e p = from_place s a r (subst (λ (x : List ℕ). Part P x r) e p)
+
 -- where a name is to come, with what was found before it
-pub record Walking (s : List ℕ) (d a i : ℕ) (want : List ℕ) (o : Option ValuePlace) : Type 0 where
-  pub at_name : AtName s d a i
+pub record Walking (s : List ℕ) (d a : ℕ) (r want : List ℕ) (o : Option ValuePlace) : Type 0 where
+  pub at_name : AtName d (drop a s) r
   pub seen : Seen s d a want at_name.before o
 
 -- behind a member, with what was found up to it
-pub record Past (s : List ℕ) (d a n : ℕ) (want : List ℕ) (o : Option ValuePlace) : Type 0 where
-  pub pair : PastPair s d a n
+pub record Past (s : List ℕ) (d a : ℕ) (r want : List ℕ) (o : Option ValuePlace) : Type 0 where
+  pub pair : PastPair d (drop a s) r
   pub seen : Seen s d a want (malso pair.before pair.named pair.last) o
 
--- a part is the bytes between its ends
-part_between : (n s : List ℕ) (i j : ℕ) → Part (λ t. t ≡ n) s i j → between i j s ≡ n
-part_between n s i j p =
-    let e : drop i s ≡ n ++ drop j s = p.splits ∙ ap (λ (x : List ℕ). x ++ drop j s) p.holds in
-    let l : length n ≡ j - i = omega (arith, ap length e, length-append n (drop j s), length-drop i s, length-drop j s, p.low, p.high) in
-    ap (λ (x : List ℕ). take (j - i) x) e ∙ take_at n (drop j s) (j - i) l
-
 -- one member more
-see : (s : List ℕ) (d a : ℕ) (want : List ℕ) (ms : Members) (n : List ℕ) (j : Json) (p : ValuePlace) → Part (ReadyPair d ms n) s a p.from → Part (Shows d j) s p.from p.to → (o : Option ValuePlace) → Seen s d a want ms o → (z : Bool) → is_name want n ≡ z → Seen s d a want (malso ms n j) (kept o z p)
+see : (s : List ℕ) (d a : ℕ) (want : List ℕ) (ms : Members) (n : List ℕ) (j : Json) (p : ValuePlace) → Between (ReadyPair d ms n) s a p.from → Between (Shows d j) s p.from p.to → (o : Option ValuePlace) → Seen s d a want ms o → (z : Bool) → is_name want n ≡ z → Seen s d a want (malso ms n j) (option_or o (then_some z p))
 see s d a want ms n j p l v (Some q) f z e =
     record { json = f.json; first = ap (λ (x : Option Json). or_else x (is_name want n) j) f.first; before = f.before; name = f.name; leads = f.leads; fresh = f.fresh; is = f.is; shown = f.shown }
 see s d a want ms n j p l v None f true e =
     record { json = j; first = ap (λ (x : Option Json). or_else x (is_name want n) j) f ∙ ap (λ (y : Bool). cond y (Some j) None) e; before = ms; name = n; leads = l; fresh = f; is = e; shown = v }
 see s d a want ms n j p l v None f false e = ap (λ (x : Option Json). or_else x (is_name want n) j) f ∙ ap (λ (y : Bool). cond y (Some j) None) e
 
-pub w_none : (s : List ℕ) (d a i : ℕ) (want : List ℕ) → Part Ws s a i → i < length s → get_or s i 0 ≡ 125 → Looked s d a want None
+pub w_none : (s : List ℕ) (d a : ℕ) (r q want : List ℕ) → a ≤ length s → Part Ws (drop a s) r → r ≡ 125 ∷ q → Looked s d a want None
 unfolding o_none
-w_none s d a i want p h e = record { members = mnone; end = i + 1; object = (o_none s d a i p h e).part; seen = refl }
+w_none s d a r q want h p e = record { members = mnone; end = length s - length q; object = between_from s a q h (o_none d (drop a s) r p q e).part; seen = refl }
 
-pub w_begin : (s : List ℕ) (d a i : ℕ) (want : List ℕ) → Part Ws s a i → i < length s → NoBlank (drop i s) → (get_or s i 0 ≡ 125 → ⊥) → Walking s d a i want None
+pub w_begin : (s : List ℕ) (d a : ℕ) (r want : List ℕ) → Part Ws (drop a s) r → NoBlank r → Unlike ℕ SameByte 125 r → Walking s d a r want None
 unfolding o_begin
-w_begin s d a i want p h n f = record { at_name = o_begin s d a i p h n f; seen = refl }
+w_begin s d a r want p n u = record { at_name = o_begin d (drop a s) r p n u; seen = refl }
 
-pub w_pair : (s : List ℕ) (d a i e : ℕ) (want : List ℕ) (o : Option ValuePlace) (p : ValuePlace) (n : ℕ) (z : Bool) (r : Option ValuePlace) → Walking s d a i want o → GotName s i e p.from → GotValue s d p.from p.to → Part Ws s p.to n → z ≡ same (undone Plain (between (i + 1) e s)) want → r ≡ kept o z p → Past s d a n want r
+pub w_rest : (s : List ℕ) (d a : ℕ) (r want : List ℕ) (o : Option ValuePlace) → Walking s d a r want o → Rest s r
+w_rest s d a r want o w = rest_part s (drop a s) r (rest_drop s a) w.at_name.part
+
+pub w_pair : (s : List ℕ) (d a : ℕ) (r n v q e want : List ℕ) (o : Option ValuePlace) (p : ValuePlace) (z : Bool) (u : Option ValuePlace) → a ≤ length s → Walking s d a r want o → GotName r n v → GotValue d v q → Part Ws q e → p ≡ record { from = length s - length v; to = length s - length q } → z ≡ same (undone Plain n) want → u ≡ option_or o (then_some z p) → Past s d a e want u
 unfolding o_name o_pair
-w_pair s d a i e want o p n z r w g v sp f k =
-    let is : is_name want g.name ≡ z = sym (f ∙ ap (λ (x : List ℕ). same (undone Plain x) want) (part_between g.name s (i + 1) e g.written)) in
+w_pair s d a r n v q e want o p z u h w g x sp pl f k =
+    let at = o_name d (drop a s) r n v w.at_name g in
+    let i : ValuePlace = record { from = length s - length v; to = length s - length q } in
     record {
-      pair = o_pair s d a p.from p.to n (o_name s d a i e p.from w.at_name g) v sp;
-      seen = subst (λ (x : Option ValuePlace). Seen s d a want (malso w.at_name.before g.name v.json) x) (sym k)
-          (see s d a want w.at_name.before g.name v.json p (o_name s d a i e p.from w.at_name g).part v.part o w.seen z is);
+      pair = o_pair d (drop a s) v q e at x sp;
+      seen = subst (λ (y : Option ValuePlace). Seen s d a want (malso w.at_name.before n x.json) y) (sym (k ∙ ap (λ (y : ValuePlace). option_or o (then_some z y)) pl))
+          (see s d a want w.at_name.before n x.json i (between_from s a v h at.part) (between_at s v q (rest_part s (drop a s) v (rest_drop s a) at.part) x.part) o w.seen z (sym f));
     }
 
-pub w_close : (s : List ℕ) (d a n : ℕ) (want : List ℕ) (o : Option ValuePlace) → Past s d a n want o → n < length s → get_or s n 0 ≡ 125 → Looked s d a want o
+pub w_close : (s : List ℕ) (d a : ℕ) (r q want : List ℕ) (o : Option ValuePlace) → a ≤ length s → Past s d a r want o → r ≡ 125 ∷ q → Looked s d a want o
 unfolding o_close
-w_close s d a n want o p h e =
-    record { members = malso p.pair.before p.pair.named p.pair.last; end = n + 1; object = (o_close s d a n p.pair h e).part; seen = p.seen }
+w_close s d a r q want o h p e =
+    record { members = malso p.pair.before p.pair.named p.pair.last; end = length s - length q; object = between_from s a q h (o_close d (drop a s) r p.pair q e).part; seen = p.seen }
 
-pub w_next : (s : List ℕ) (d a n i : ℕ) (want : List ℕ) (o : Option ValuePlace) → Past s d a n want o → n < length s → get_or s n 0 ≡ 44 → Part Ws s (n + 1) i → NoBlank (drop i s) → Walking s d a i want o
+pub w_next : (s : List ℕ) (d a : ℕ) (r q i want : List ℕ) (o : Option ValuePlace) → Past s d a r want o → r ≡ 44 ∷ q → Part Ws q i → Walking s d a i want o
 unfolding o_next
-w_next s d a n i want o p h e w b = record { at_name = o_next s d a n p.pair i h e w b; seen = p.seen }
+w_next s d a r q i want o p e w = record { at_name = o_next d (drop a s) r p.pair q i e w; seen = p.seen }
 
 -- ---- the object at the cursor
 bare_plain : (u : List ℕ) → NoBlank u → bare u ≡ u
@@ -81,42 +125,54 @@ bare_ws : {w : List ℕ} → Ws w → (u : List ℕ) → bare (w ++ u) ≡ bare 
 bare_ws nothing u = refl
 bare_ws (w_more b ws e) u = rw append_assoc (bare_ws ws (b ∷ u) ∙ ap (λ (z : Bool). cond z (bare u) (b ∷ u)) e)
 
-bare_at : (s : List ℕ) (a i : ℕ) → Part Ws s a i → NoBlank (drop i s) → bare (drop a s) ≡ drop i s
-bare_at s a i p n = ap bare p.splits ∙ (bare_ws p.holds (drop i s) ∙ bare_plain (drop i s) n)
+bare_at : (s r : List ℕ) → Part Ws s r → NoBlank r → bare s ≡ r
+bare_at s r p n = ap bare p.splits ∙ (bare_ws p.holds r ∙ bare_plain r n)
 
 pub l_outside : (s : List ℕ) (a : ℕ) → length s < a → (t : List ℕ) → bare (drop a s) ≡ 123 ∷ t → ⊥
 l_outside s a h t e =
     let g : [] ≡ 123 ∷ t = sym (ap bare (drop_all a s (omega arith))) ∙ e in
-    let z : ◌≡◌ {A = ℕ} 0 1 = cc in
-    omega arith
+    grind arith
 
-pub l_end : (s : List ℕ) (a i : ℕ) → Part Ws s a i → NoBlank (drop i s) → length s ≤ i → (t : List ℕ) → bare (drop a s) ≡ 123 ∷ t → ⊥
-l_end s a i p n h t e =
-    let g : [] ≡ 123 ∷ t = sym (bare_at s a i p n ∙ drop_all i s h) ∙ e in
-    let z : ◌≡◌ {A = ℕ} 0 1 = cc in
-    omega arith
+other : (r t : List ℕ) → Unlike ℕ SameByte 123 r → r ≡ 123 ∷ t → ⊥
+other [] t u e = grind arith
+other (b ∷ r) t u e = let h : b ≡ 123 = cc in not_is b 123 u h
 
-pub l_other : (s : List ℕ) (a i : ℕ) → Part Ws s a i → NoBlank (drop i s) → i < length s → (get_or s i 0 ≡ 123 → ⊥) → (t : List ℕ) → bare (drop a s) ≡ 123 ∷ t → ⊥
-l_other s a i p n h f t e =
-    let g : get_or s i 0 ∷ drop (i + 1) s ≡ 123 ∷ t = sym (bare_at s a i p n ∙ drop_more s i 0 h) ∙ e in
-    f (cc)
+pub l_other : (s : List ℕ) (a : ℕ) (r : List ℕ) → Part Ws (drop a s) r → NoBlank r → Unlike ℕ SameByte 123 r → (t : List ℕ) → bare (drop a s) ≡ 123 ∷ t → ⊥
+l_other s a r p n u t e = other r t u (sym (bare_at (drop a s) r p n) ∙ e)
 
-back : (d : ℕ) → 0 < d → suc (d - 1) ≡ d
-back d h = omega arith
+-- what is left behind the brace
+behind_brace : (s : List ℕ) (a : ℕ) (r q : List ℕ) → Part Ws (drop a s) r → r ≡ 123 ∷ q → Rest s q
+behind_brace s a r q p e =
+    let x = rest_part s (drop a s) r (rest_drop s a) p in
+    (x.0 ++ (123 ∷ []), x.1 ∙ (ap (λ (y : List ℕ). x.0 ++ y) e ∙ sym (append_assoc x.0 (123 ∷ []) q)))
 
-pub l_looked : (s : List ℕ) (c : Cursor) (want : List ℕ) (o : Option ValuePlace) (i : ℕ) → Part Ws s c.offset i → NoBlank (drop i s) → i < length s → get_or s i 0 ≡ 123 → 0 < c.depth → Looked s (c.depth - 1) (i + 1) want o → LookedUp s c want o
-l_looked s c want o i p n h e g l =
-    record { start = i; left = c.depth - 1; opens = bare_at s c.offset i p n ∙ (drop_more s i 0 h ∙ ap (λ (x : ℕ). x ∷ drop (i + 1) s) e); deep = sym (back c.depth g); looked = l }
+pub l_within : (s : List ℕ) (a : ℕ) (r q : List ℕ) → Part Ws (drop a s) r → r ≡ 123 ∷ q → length q < length s
+l_within s a r q p e = let h = rest_len s r (rest_part s (drop a s) r (rest_drop s a) p) in omega (arith, h, ap length e)
 
-pub l_refused : (s : List ℕ) (a d i q : ℕ) → Part Ws s a i → i < length s → get_or s i 0 ≡ 123 → 0 < d → Refuses (AnyObject (d - 1)) s (i + 1) q → Refuses (AnyValue d) s a q
-l_refused s a d i q p h e g n =
-    subst (λ (x : ℕ). Refuses (AnyValue x) s a q) (back d g)
-    (record {
-      high = n.high;
-      stops = λ k.
-          skip (val (suc (d - 1)) k) (ws_val (suc (d - 1)) k) p
-          ∙ (go_at (val (suc (d - 1)) k) (members (d - 1) k) s i h (ap (λ x. step_val (start_of x) x (suc (d - 1)) k) e) ∙ n.stops k);
-    })
+pub l_looked : (s : List ℕ) (c : Cursor) (want r q : List ℕ) (o : Option ValuePlace) (i d : ℕ) → Part Ws (drop c.offset s) r → NoBlank r → r ≡ 123 ∷ q → i ≡ length s - length q → c.depth ≡ suc d → Looked s d i want o → LookedUp s c want o
+l_looked s c want r q o i d p n e f g l =
+    let w = l_within s c.offset r q p e in
+    let y = behind_brace s c.offset r q p e in
+    let h : length s - length q - 1 + 1 ≡ i = omega (arith, w, f) in
+    record {
+      start = length s - length q - 1;
+      left = d;
+      opens = bare_at (drop c.offset s) r p n ∙ (e ∙ ap (λ (x : List ℕ). 123 ∷ x) (sym (place_of s y.0 q y.1).1 ∙ ap (λ (k : ℕ). drop k s) (sym f ∙ sym h)));
+      deep = g;
+      looked = subst (λ (k : ℕ). Looked s d k want o) (sym h) l;
+    }
+
+pub l_refused : (s : List ℕ) (c : Cursor) (r q z : List ℕ) (f : DocumentFault) (i d : ℕ) → Part Ws (drop c.offset s) r → r ≡ 123 ∷ q → i ≡ length s - length q → c.depth ≡ suc d → Refuses (AnyObject d) (drop i s) z → f ≡ Syntax (length s - length z) → FaultAt s c f
+l_refused s c r q z f i d p e k g n h =
+    let y = behind_brace s c.offset r q p e in
+    let at : drop i s ≡ q = ap (λ (x : ℕ). drop x s) k ∙ (place_of s y.0 q y.1).1 in
+    let m : Refuses (AnyObject d) q z = subst (λ (x : List ℕ). Refuses (AnyObject d) x z) at n in
+    let v : Refuses (AnyValue (suc d)) (drop c.offset s) z = λ st. skip (val (suc d) st) (ws_val (suc d) st) p ∙ (go_at (val (suc d) st) (members d st) r q 123 e refl ∙ m st) in
+    let o = left_over q (members d []) z (m []) in
+    let u : Rest s z = (y.0 ++ o.0, y.1 ∙ (ap (λ (x : List ℕ). y.0 ++ x) o.1 ∙ sym (append_assoc y.0 o.0 z))) in
+    let w = place_of s u.0 z u.1 in
+    subst (λ x. FaultAt s c x) (sym h)
+    (w.0, subst (λ (x : List ℕ). Refuses (AnyValue c.depth) (drop c.offset s) x) (sym w.1) (subst (λ (x : ℕ). Refuses (AnyValue x) (drop c.offset s) z) (sym g) v))
 
 -- ---- in a permitted text
 object_plain : {d : ℕ} {ms : Members} {t : List ℕ} → Shows d (obj ms) t → (v : List ℕ) → NoBlank (t ++ v)
@@ -130,7 +186,7 @@ same_members {d} {ms} (padded {w = w} {t = t} {v = v} ws sh vs) ns text rest so 
 
 pub look_ups_tell_lem : LookUpsTell
 look_ups_tell_lem s c want o ms e f p l =
-    let x = l.looked.object in
+    let x = l.looked.object.part in
     let ns : Members = l.looked.members in
     same_members p ns x.text (drop l.looked.end s)
     (subst (λ (k : ℕ). Shows k (obj ns) (123 ∷ x.text)) (sym l.deep ∙ f) x.holds)

@@ -1,6 +1,6 @@
 -- A member of an object looked up by its name: the first one whose name, its escapes undone, is the text.
 -- Assumes nothing.
-use Rattle.std.specs.Prelude.{◌≡◌, ℕ, suc, ◌+◌, ◌<◌, Bool, true, cond, List, [], ◌∷◌, length, drop, Some, None, Option, nat_le}
+use Rattle.std.specs.Prelude.{◌≡◌, ℕ, suc, ◌+◌, ◌<◌, ◌≤◌, Bool, true, cond, List, [], ◌∷◌, length, drop, Some, None, Option, nat_le}
 use Rattle.std.specs.List.{between}
 use Rattle.text.specs.Bytes.{same}
 use Rattle.grammar.specs.Ast.{Json, Members, obj, mnone, malso}
@@ -27,10 +27,11 @@ abbrev pub first_named : List ℕ → Members → Option Json
 first_named want mnone = None
 first_named want (malso ms n x) = or_else (first_named want ms) (is_name want n) x
 
--- of two places the one found first
-abbrev pub kept : Option ValuePlace → Bool → ValuePlace → Option ValuePlace
-kept (Some p) z q = Some p
-kept None z q = cond z (Some q) None
+-- The bytes of s from one place up to another have the property P.
+pub record Between (P : List ℕ → Type 0) (s : List ℕ) (from to : ℕ) : Type 0 where
+  pub part : Part P (drop from s) (drop to s)
+  pub low : from ≤ to
+  pub high : to ≤ length s
 
 -- The bytes at the place are the value of the first member with the name: behind the opening brace at a - 1 come members with other names, then this one's name and colon, and then the value.
 pub record FoundAt (s : List ℕ) (d a : ℕ) (want : List ℕ) (ms : Members) (p : ValuePlace) : Type 0 where
@@ -38,10 +39,10 @@ pub record FoundAt (s : List ℕ) (d a : ℕ) (want : List ℕ) (ms : Members) (
   pub first : first_named want ms ≡ Some json
   pub before : Members
   pub name : List ℕ
-  pub leads : Part (ReadyPair d before name) s a p.from
+  pub leads : Between (ReadyPair d before name) s a p.from
   pub fresh : first_named want before ≡ None
   pub is : is_name want name ≡ true
-  pub shown : Part (Shows d json) s p.from p.to
+  pub shown : Between (Shows d json) s p.from p.to
 
 abbrev pub Seen : List ℕ → ℕ → ℕ → List ℕ → Members → Option ValuePlace → Type 0
 Seen s d a want ms (Some p) = FoundAt s d a want ms p
@@ -51,7 +52,7 @@ Seen s d a want ms None = first_named want ms ≡ None
 pub record Looked (s : List ℕ) (d a : ℕ) (want : List ℕ) (o : Option ValuePlace) : Type 0 where
   pub members : Members
   pub end : ℕ
-  pub object : Part (λ t. Shows (suc d) (obj members) (123 ∷ t)) s a end
+  pub object : Between (λ t. Shows (suc d) (obj members) (123 ∷ t)) s a end
   pub seen : Seen s d a want members o
 
 -- the bytes behind leading white space
@@ -69,7 +70,7 @@ pub record LookedUp (s : List ℕ) (c : Cursor) (want : List ℕ) (o : Option Va
 
 -- The fault of a look-up: the bytes from the cursor on can be continued to a value up to that place and no further; or no object begins there that may nest so deep.
 abbrev pub FaultAt : List ℕ → Cursor → DocumentFault → Type 0
-FaultAt s c (Syntax n) = Refuses (AnyValue c.depth) s c.offset n
+FaultAt s c (Syntax n) = (n ≤ length s) × Refuses (AnyValue c.depth) (drop c.offset s) (drop n s)
 FaultAt s c Form = (t : List ℕ) → bare (drop c.offset s) ≡ 123 ∷ t → 0 < c.depth → ⊥
 FaultAt s c Deep = ⊥
 

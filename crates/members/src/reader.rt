@@ -22,24 +22,20 @@ fn look_up(
 ) -> Result<Option<ValuePlace>, DocumentFault>
     ensures { MatchResult result (λ o. LookedUp doc.now cursor.old want.now o) (λ f. FaultAt doc.now cursor.old f) }
 {
-    if cursor.offset > doc.len() {
+    let Some(bytes) = doc.get(cursor.offset..) else {
         return Err(DocumentFault::Form);
-    }
-    let start = blanks(doc, cursor.offset);
-    if start >= doc.len() {
+    };
+    let Some(members) = blanks(bytes).bytes.strip_prefix(b"{") else {
         return Err(DocumentFault::Form);
-    }
-    if doc[start] != b'{' {
+    };
+    let Some(depth) = cursor.depth.checked_sub(1) else {
         return Err(DocumentFault::Form);
-    }
-    if cursor.depth == 0 {
-        return Err(DocumentFault::Form);
-    }
-    let depth = cursor.depth - 1;
-    match walk(doc, start + 1, depth, cursor, want) {
-        Ok(found) => Ok(found),
-        Err(at) => Err(DocumentFault::Syntax(at)),
-    }
+    };
+    *cursor = Cursor {
+        offset: doc.len() - members.len(),
+        depth,
+    };
+    walk(doc, cursor, want).map_err(|stop| stop.fault_in(doc))
 }
 
 impl<'a> Reader<'a> {
@@ -75,14 +71,6 @@ impl<'a> Reader<'a> {
     pub fn text(&self, place: ValuePlace) -> &'a [u8]
         ensures { result.now ≡ part_of self.now.doc.now place.from place.to }
     {
-        let from = place.from;
-        let to = place.to;
-        if from > to {
-            return &self.doc[0..0];
-        }
-        if to > self.doc.len() {
-            return &self.doc[0..0];
-        }
-        &self.doc[from..to]
+        self.doc.get(place.from..place.to).unwrap_or(&[])
     }
 }

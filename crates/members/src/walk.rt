@@ -1,14 +1,10 @@
 // The members of an object, one by one.
-ghost use Rattle.std.specs.Prelude.{◌≡◌, ◌≤◌, length, MatchResult};
-ghost use Rattle.std.specs.List.{between};
+ghost use Rattle.std.specs.Prelude.{◌≡◌, ◌≤◌, length, drop, MatchResult};
 ghost use Rattle.documents.specs.Reading.{Refuses, AnyObject};
-ghost use Rattle.names.specs.Undone.{undone};
-ghost use Rattle.names.specs.declared.undone.Undoing.TheVariants.{Plain};
-ghost use Rattle.text.specs.Bytes.{same};
-ghost use Rattle.members.specs.LookUp.{kept, Looked};
+ghost use Rattle.members.specs.LookUp.{Looked};
 
 use crate::cursor::Cursor;
-use documents::{blanks, name, value};
+use documents::{Stop, blanks, name, value};
 use names::name_is;
 
 // Where a value begins, and where it ends.
@@ -18,66 +14,37 @@ pub struct ValuePlace {
     pub to: usize,
 }
 
-// Whether the name that is written from one place to another is the text.
-fn name_at(doc: &[u8], from: usize, to: usize, want: &[u8]) -> bool
-    requires { (from ≤ to) × (to ≤ length doc.now) }
-    ensures { result ≡ same (undone Plain (between from to doc.now)) want.now }
-{
-    name_is(&doc[from..to], want)
-}
-
-// The place that was found first.
-fn keep_first(found: Option<ValuePlace>, is: bool, place: ValuePlace) -> Option<ValuePlace>
-    ensures { result ≡ kept found is place }
-{
-    match found {
-        Some(first) => Some(first),
-        None => { if is { Some(place) } else { None } }
-    }
-}
-
-// The value of the first member with the name, of the object whose opening brace stands before `at`. The cursor goes along.
-pub(crate) fn walk(
-    doc: &[u8],
-    at: usize,
-    depth: u8,
+// The value of the first member with the name, of the object whose opening brace stands before the cursor. The cursor goes along.
+pub(crate) fn walk<'a>(
+    doc: &'a [u8],
     cursor: &mut Cursor,
     want: &[u8],
-) -> Result<Option<ValuePlace>, usize>
-    requires { at ≤ length doc.now }
-    ensures { MatchResult result (λ o. Looked doc.now depth at want.now o) (λ q. Refuses (AnyObject depth) doc.now at q) }
+) -> Result<Option<ValuePlace>, Stop<'a>>
+    requires { cursor.old.offset ≤ length doc.now }
+    ensures { MatchResult result (λ o. Looked doc.now cursor.old.depth cursor.old.offset want.now o) (λ stop. Refuses (AnyObject cursor.old.depth) (drop cursor.old.offset doc.now) stop.rest.now) }
 {
-    cursor.offset = blanks(doc, at);
-    if cursor.offset >= doc.len() {
-        return Err(cursor.offset);
-    }
-    if doc[cursor.offset] == b'}' {
+    let depth = cursor.depth;
+    let mut member = blanks(&doc[cursor.offset..]);
+    if member.bytes.starts_with(b"}") {
         return Ok(None);
     }
-    let mut found: Option<ValuePlace> = None;
+    let mut found = None;
     loop {
-        let start = name(doc, cursor.offset)?;
-        let end = value(doc, start.value, depth)?;
-        let is = name_at(doc, cursor.offset + 1, start.end, want);
-        found = keep_first(
-            found,
-            is,
-            ValuePlace {
-                from: start.value,
-                to: end,
-            },
-        );
-        let next = blanks(doc, end);
-        if next >= doc.len() {
-            return Err(next);
-        }
-        let b = doc[next];
-        if b == b'}' {
+        cursor.offset = doc.len() - member.bytes.len();
+        let named = name(member)?;
+        let behind = value(named.value, depth)?;
+        let place = ValuePlace {
+            from: doc.len() - named.value.bytes.len(),
+            to: doc.len() - behind.len(),
+        };
+        found = found.or(name_is(named.name, want).then_some(place));
+        let end = blanks(behind);
+        if end.bytes.starts_with(b"}") {
             return Ok(found);
         }
-        if b != b',' {
-            return Err(next);
-        }
-        cursor.offset = blanks(doc, next + 1);
+        let Some(rest) = end.bytes.strip_prefix(b",") else {
+            return Err(Stop { rest: end.bytes });
+        };
+        member = blanks(rest);
     }
 }

@@ -1,10 +1,10 @@
 -- A string as it is written between its quotes, with its escapes undone: `\` and a letter stand for one character, `\u` and four digits for the character of that number, and a pair of surrogates for one character.
 -- Assumes nothing.
-use Rattle.std.specs.Prelude.{ℕ, ◌+◌, ◌-◌, ◌*◌, ◌/◌, ◌%◌, Bool, false, cond, List, [], ◌∷◌, ◌++◌, length, Some, None, Option, ◌==◌, nat_le, nat_lt, slice_index}
+use Rattle.std.specs.Prelude.{ℕ, ◌+◌, ◌-◌, ◌*◌, ◌/◌, ◌%◌, Bool, false, cond, List, [], ◌∷◌, ◌++◌, Some, None, Option, ◌==◌, nat_le, nat_lt}
 use Rattle.names.specs.declared.undone.Undoing.{Undoing}
 use Rattle.names.specs.declared.undone.Undoing.TheVariants.{Plain, Back, Digits, High, HighBack, LowDigits}
 use Rattle.names.specs.declared.undone.Given.{Given}
-use Rattle.names.specs.declared.undone.Given.TheVariants.{Nothing, Byte, Code}
+use Rattle.names.specs.declared.undone.Given.TheVariants.{Byte, Code}
 
 abbrev pub within : ℕ → ℕ → ℕ → Bool
 within lo hi b = cond (nat_le lo b) (nat_le b hi) false
@@ -36,21 +36,21 @@ utf8 v =
     (cond (nat_lt v 65536) ((224 + v / 4096) ∷ (128 + v / 64 % 64) ∷ (128 + v % 64) ∷ [])
     ((240 + v / 262144) ∷ (128 + v / 4096 % 64) ∷ (128 + v / 64 % 64) ∷ (128 + v % 64) ∷ [])))
 
-abbrev pub bytes_of : Given → List ℕ
-bytes_of Nothing = []
-bytes_of (Byte b) = b ∷ []
-bytes_of (Code v) = utf8 v
+abbrev pub bytes_of : Option Given → List ℕ
+bytes_of None = []
+bytes_of (Some (Byte b)) = b ∷ []
+bytes_of (Some (Code v)) = utf8 v
 
-abbrev pub unit_given : ℕ → Given
-unit_given v = cond (is_high v) Nothing (Code v)
+abbrev pub unit_given : ℕ → Option Given
+unit_given v = cond (is_high v) None (Some (Code v))
 
-abbrev pub given : Undoing → ℕ → Given
-given Plain b = cond (b == 92) Nothing (Byte b)
-given Back b = cond (b == 117) Nothing (Byte (simple_of b))
-given (Digits left v) b = cond (nat_lt 1 left) Nothing (unit_given (with_digit v b))
-given (High h) b = Nothing
-given (HighBack h) b = Nothing
-given (LowDigits left h v) b = cond (nat_lt 1 left) Nothing (Code (paired h (with_digit v b)))
+abbrev pub given : Undoing → ℕ → Option Given
+given Plain b = cond (b == 92) None (Some (Byte b))
+given Back b = cond (b == 117) None (Some (Byte (simple_of b)))
+given (Digits left v) b = cond (nat_lt 1 left) None (unit_given (with_digit v b))
+given (High h) b = None
+given (HighBack h) b = None
+given (LowDigits left h v) b = cond (nat_lt 1 left) None (Some (Code (paired h (with_digit v b))))
 
 abbrev pub unit_after : ℕ → Undoing
 unit_after v = cond (is_high v) (High v) Plain
@@ -67,12 +67,3 @@ after (LowDigits left h v) b = cond (nat_lt 1 left) (LowDigits (left - 1) h (wit
 abbrev pub undone : Undoing → List ℕ → List ℕ
 undone s [] = []
 undone s (b ∷ t) = bytes_of (given s b) ++ undone (after s b) t
-
--- ---- a text's bytes at a place of another
-abbrev pub past_byte : List ℕ → Option ℕ → ℕ → Option ℕ
-past_byte w None b = None
-past_byte w (Some i) b = cond (nat_lt i (length w)) (cond (slice_index w i == b) (Some (i + 1)) None) None
-
-abbrev pub past_all : List ℕ → Option ℕ → List ℕ → Option ℕ
-past_all w o [] = o
-past_all w o (b ∷ t) = past_all w (past_byte w o b) t

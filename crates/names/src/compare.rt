@@ -1,57 +1,49 @@
 // A name as it is written, compared with a text.
-ghost use Rattle.std.specs.Prelude.{◌≡◌, ◌≤◌, [], length, Some};
-ghost use Rattle.text.specs.Bytes.{same};
-ghost use Rattle.names.specs.Undone.{utf8, bytes_of, undone, past_byte, past_all};
+ghost use Rattle.std.specs.Prelude.{◌≡◌, [], ◌∷◌, Some, None, MatchOption};
+ghost use Rattle.text.specs.Bytes.{same, stripped};
+ghost use Rattle.names.specs.Undone.{utf8, bytes_of, undone};
 ghost use Rattle.names.specs.declared.undone.Undoing.TheVariants.{Plain};
 
 use crate::undone::{Given, Undoing, given_by, state_after};
 
-// Behind one byte of the text, if it stands at the place.
-fn past_byte(want: &[u8], at: Option<usize>, b: u32) -> Option<usize>
-    ensures { result ≡ past_byte want.now at b }
+// Behind one byte, if the text begins with it.
+fn past_byte(text: &[u8], b: u32) -> Option<&[u8]>
+    ensures { MatchOption result (stripped (b ∷ []) text.now ≡ None) (λ r. stripped (b ∷ []) text.now ≡ Some r.now) }
 {
-    match at {
-        None => None,
-        Some(i) => {
-            if i < want.len() && want[i] as u32 == b {
-                Some(i + 1)
-            } else {
-                None
-            }
-        }
-    }
+    let (first, rest) = text.split_first()?;
+    (*first as u32 == b).then_some(rest)
 }
 
 // Behind the UTF-8 of a character.
-fn past_code(want: &[u8], at: usize, v: u32) -> Option<usize>
-    ensures { result ≡ past_all want.now (Some at) (utf8 v) }
+// Kept: `char::encode_utf8` takes no lone surrogate, and an escape can write one.
+fn past_code(text: &[u8], v: u32) -> Option<&[u8]>
+    ensures { MatchOption result (stripped (utf8 v) text.now ≡ None) (λ r. stripped (utf8 v) text.now ≡ Some r.now) }
 {
     if v < 128 {
-        return past_byte(want, Some(at), v);
+        return past_byte(text, v);
     }
     if v < 2048 {
-        let first = past_byte(want, Some(at), 192 + v / 64);
-        return past_byte(want, first, 128 + v % 64);
+        let rest = past_byte(text, 192 + v / 64)?;
+        return past_byte(rest, 128 + v % 64);
     }
-    if v < 65536 {
-        let first = past_byte(want, Some(at), 224 + v / 4096);
-        let second = past_byte(want, first, 128 + v / 64 % 64);
-        return past_byte(want, second, 128 + v % 64);
-    }
-    let first = past_byte(want, Some(at), 240 + v / 262144);
-    let second = past_byte(want, first, 128 + v / 4096 % 64);
-    let third = past_byte(want, second, 128 + v / 64 % 64);
-    past_byte(want, third, 128 + v % 64)
+    let rest = if v < 65536 {
+        past_byte(text, 224 + v / 4096)?
+    } else {
+        let rest = past_byte(text, 240 + v / 262144)?;
+        past_byte(rest, 128 + v / 4096 % 64)?
+    };
+    let rest = past_byte(rest, 128 + v / 64 % 64)?;
+    past_byte(rest, 128 + v % 64)
 }
 
 // Behind what a byte of a name gives.
-fn past_given(want: &[u8], at: usize, given: Given) -> Option<usize>
-    ensures { result ≡ past_all want.now (Some at) (bytes_of given) }
+fn past_given(text: &[u8], given: Option<Given>) -> Option<&[u8]>
+    ensures { MatchOption result (stripped (bytes_of given) text.now ≡ None) (λ r. stripped (bytes_of given) text.now ≡ Some r.now) }
 {
     match given {
-        Given::Nothing => Some(at),
-        Given::Byte(b) => past_byte(want, Some(at), b as u32),
-        Given::Code(v) => past_code(want, at, v),
+        None => Some(text),
+        Some(Given::Byte(b)) => past_byte(text, b as u32),
+        Some(Given::Code(v)) => past_code(text, v),
     }
 }
 
@@ -60,15 +52,13 @@ pub fn name_is(written: &[u8], want: &[u8]) -> bool
     ensures { result ≡ same (undone Plain written.now) want.now }
 {
     let mut state = Undoing::Plain;
-    let mut k: usize = 0;
+    let mut rest = want;
     for b in written {
-        match past_given(want, k, given_by(state, *b)) {
-            None => return false,
-            Some(q) => {
-                k = q;
-                state = state_after(state, *b);
-            }
-        }
+        let Some(left) = past_given(rest, given_by(state, *b)) else {
+            return false;
+        };
+        rest = left;
+        state = state_after(state, *b);
     }
-    k == want.len()
+    rest.is_empty()
 }

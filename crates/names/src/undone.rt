@@ -13,10 +13,9 @@ pub enum Undoing {
     LowDigits(u8, u32, u32),
 }
 
-// What a byte gives: nothing yet, a byte, or a character by its number.
+// What a byte can give: a byte, or a character by its number.
 #[derive(Clone, Copy)]
 pub enum Given {
-    Nothing,
     Byte(u8),
     Code(u32),
 }
@@ -26,12 +25,7 @@ fn hex_of(b: u8) -> u32
     ensures is { result ≡ hex_of b }
     ensures small { result ≤ 15 }
 {
-    match b {
-        b'0'..=b'9' => (b - b'0') as u32,
-        b'A'..=b'F' => (b - 55) as u32,
-        b'a'..=b'f' => (b - 87) as u32,
-        _ => 0,
-    }
+    (b as char).to_digit(16).unwrap_or(0)
 }
 
 // The byte that a backslash and this one stand for.
@@ -59,7 +53,7 @@ fn with_digit(v: u32, b: u8) -> u32
 fn is_high(v: u32) -> bool
     ensures { result ≡ is_high v }
 {
-    v >= 0xD800 && v <= 0xDBFF
+    matches!(v, 0xD800..=0xDBFF)
 }
 
 // The character that a pair of surrogates stands for.
@@ -69,44 +63,20 @@ fn paired_with(high: u32, low: u32) -> u32
     65536 + high % 1024 * 1024 + low % 1024
 }
 
-// What a byte gives.
-pub(crate) fn given_by(state: Undoing, b: u8) -> Given
+// What a byte gives, if it does not only go on with an escape.
+pub(crate) fn given_by(state: Undoing, b: u8) -> Option<Given>
     ensures { result ≡ given state b }
 {
     match state {
-        Undoing::Plain => {
-            if b == b'\\' {
-                Given::Nothing
-            } else {
-                Given::Byte(b)
-            }
-        }
-        Undoing::Back => {
-            if b == b'u' {
-                Given::Nothing
-            } else {
-                Given::Byte(simple_of(b))
-            }
-        }
-        Undoing::Digits(left, v) => {
-            if left > 1 {
-                return Given::Nothing;
-            }
+        Undoing::Plain => (b != b'\\').then_some(Given::Byte(b)),
+        Undoing::Back => (b != b'u').then_some(Given::Byte(simple_of(b))),
+        Undoing::Digits(left, _) | Undoing::LowDigits(left, _, _) if left > 1 => None,
+        Undoing::Digits(_, v) => {
             let unit = with_digit(v, b);
-            if is_high(unit) {
-                Given::Nothing
-            } else {
-                Given::Code(unit)
-            }
+            (!is_high(unit)).then_some(Given::Code(unit))
         }
-        Undoing::High(_) => Given::Nothing,
-        Undoing::HighBack(_) => Given::Nothing,
-        Undoing::LowDigits(left, high, v) => {
-            if left > 1 {
-                return Given::Nothing;
-            }
-            Given::Code(paired_with(high, with_digit(v, b)))
-        }
+        Undoing::LowDigits(_, high, v) => Some(Given::Code(paired_with(high, with_digit(v, b)))),
+        Undoing::High(_) | Undoing::HighBack(_) => None,
     }
 }
 
@@ -115,25 +85,11 @@ pub(crate) fn state_after(state: Undoing, b: u8) -> Undoing
     ensures { result ≡ after state b }
 {
     match state {
-        Undoing::Plain => {
-            if b == b'\\' {
-                Undoing::Back
-            } else {
-                Undoing::Plain
-            }
-        }
-        Undoing::Back => {
-            if b == b'u' {
-                Undoing::Digits(4, 0)
-            } else {
-                Undoing::Plain
-            }
-        }
-        Undoing::Digits(left, v) => {
+        Undoing::Plain if b == b'\\' => Undoing::Back,
+        Undoing::Back if b == b'u' => Undoing::Digits(4, 0),
+        Undoing::Digits(left, v) if left > 1 => Undoing::Digits(left - 1, with_digit(v, b)),
+        Undoing::Digits(_, v) => {
             let unit = with_digit(v, b);
-            if left > 1 {
-                return Undoing::Digits(left - 1, unit);
-            }
             if is_high(unit) {
                 Undoing::High(unit)
             } else {
@@ -142,11 +98,9 @@ pub(crate) fn state_after(state: Undoing, b: u8) -> Undoing
         }
         Undoing::High(high) => Undoing::HighBack(high),
         Undoing::HighBack(high) => Undoing::LowDigits(4, high, 0),
-        Undoing::LowDigits(left, high, v) => {
-            if left > 1 {
-                return Undoing::LowDigits(left - 1, high, with_digit(v, b));
-            }
-            Undoing::Plain
+        Undoing::LowDigits(left, high, v) if left > 1 => {
+            Undoing::LowDigits(left - 1, high, with_digit(v, b))
         }
+        Undoing::Plain | Undoing::Back | Undoing::LowDigits(_, _, _) => Undoing::Plain,
     }
 }

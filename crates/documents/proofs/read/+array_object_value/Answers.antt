@@ -1,105 +1,68 @@
-use Rattle.std.proofs.Common.{sym, arith}
+use Rattle.std.proofs.Common.{rules}
 use Rattle.std.proofs.lemmas.Result.{MatchResult-weaker, err_from_is_err_and}
-use Rattle.documents.proofs.Values.{v_end, v_none, v_blank, v_string, v_no_string, v_minus, v_no_minus, v_zero, v_no_zero, v_positive, v_no_positive, v_true, v_no_true, v_false, v_no_false, v_null, v_no_null, v_deep_array, v_deep_object, v_array, v_no_array, v_object, v_no_object}
-use Rattle.documents.proofs.Arrays.{a_none_end, a_none, a_begin, a_item, a_item_end, a_item_bad, a_close, a_next}
-use Rattle.documents.proofs.Objects.{o_none_end, o_none, o_begin, o_no_name, o_name, o_fail, o_pair, o_pair_end, o_pair_bad, o_close, o_next}
+use Rattle.documents.proofs.Words.{one_is, starts, starts_not}
+use Rattle.documents.proofs.Values.{v_string, v_no_string, v_minus, v_no_minus, v_zero, v_no_zero, v_positive, v_no_positive, v_true, v_no_true, v_false, v_no_false, v_null, v_no_null, v_array, v_no_array, v_object, v_no_object}
+use Rattle.documents.proofs.Arrays.{a_none, a_begin, a_item, a_item_bad, a_close, a_next}
+use Rattle.documents.proofs.Objects.{o_none, o_begin, o_name, o_pair, o_pair_bad, o_close, o_next}
 use Rattle.documents.proofs.read.+array_object_value.Goals as goal
 
-pub array-returns-then-i-doc : goal.array-returns-then-i-doc
-array-returns-then-i-doc t c = a_none_end c.args.doc.now c.args.depth c.args.at c.blanks-i.result c.blanks-i.ensures.part (omega arith)
-
-pub array-returns-then-doc-i-eq93 : goal.array-returns-then-doc-i-eq93
-array-returns-then-doc-i-eq93 t c = a_none c.args.doc.now c.args.depth c.args.at c.blanks-i.result c.blanks-i.ensures.part (omega arith) (omega arith)
+pub array-returns-in-Some : goal.array-returns-in-Some
+array-returns-in-Some t c = a_none _ _ _ c.blanks-item.ensures _ (starts 93 _ _ c.in-Some.ensures.cases.0 c.in-Some.ensures.cases.1)
 
 pub array-loop-end-init : goal.array-loop-end-init
-array-loop-end-init t c = a_begin c.args.doc.now c.args.depth c.args.at c.blanks-i.result c.blanks-i.ensures.part (omega arith) c.blanks-i.ensures.stop (omega arith)
+array-loop-end-init t c = a_begin _ _ _ c.blanks-item.ensures c.blanks-item.result.no_blank (starts_not 93 _ c.in_default.ensures.cases)
 
-pub array-returns-then-next-doc : goal.array-returns-then-next-doc
-array-returns-then-next-doc t c = a_item_end c.args.doc.now c.args.depth c.args.at c.blanks-next.result (a_item _ _ _ _ _ _ c.loop-end.invariant c.in_ok-end.ensures c.blanks-next.ensures.part) (omega arith)
+pub array-returns-in-Some-strip_prefix : goal.array-returns-in-Some-strip_prefix
+array-returns-in-Some-strip_prefix t c = a_close _ _ _ (a_item _ _ _ _ _ c.loop-end.invariant c.in_ok-value.ensures c.blanks-end.ensures) _ (starts 93 _ _ c.in-Some-strip_prefix.ensures.cases.0 c.in-Some-strip_prefix.ensures.cases.1)
 
-pub array-returns-then-b-eq93 : goal.array-returns-then-b-eq93
-array-returns-then-b-eq93 t c = a_close c.args.doc.now c.args.depth c.args.at c.blanks-next.result (a_item _ _ _ _ _ _ c.loop-end.invariant c.in_ok-end.ensures c.blanks-next.ensures.part) (omega arith) c.if-b-eq93.true
-
-pub array-returns-then-b-ne44 : goal.array-returns-then-b-ne44
-array-returns-then-b-ne44 t c = a_item_bad c.args.doc.now c.args.depth c.args.at c.blanks-next.result (a_item _ _ _ _ _ _ c.loop-end.invariant c.in_ok-end.ensures c.blanks-next.ensures.part) (omega arith) c.blanks-next.ensures.stop c.if-b-ne44.true c.if-b-eq93.false
+pub array-returns-in_err-follow : goal.array-returns-in_err-follow
+array-returns-in_err-follow t c =
+    let p = err_from_is_err_and c.from_residual-in_err-follow.result c.from_residual-in_err-follow.ensures.1 in
+    rw (p.1, p.2) (a_item_bad _ _ _ (a_item _ _ _ _ _ c.loop-end.invariant c.in_ok-value.ensures c.blanks-end.ensures) _ c.blanks-end.result.no_blank (starts_not 93 _ c.in_default-strip_prefix.ensures.cases) c.in_err-follow.ensures)
 
 pub array-loop-end-preserved : goal.array-loop-end-preserved
-array-loop-end-preserved t c = a_next c.args.doc.now c.args.depth c.args.at c.blanks-next.result (a_item _ _ _ _ _ _ c.loop-end.invariant c.in_ok-end.ensures c.blanks-next.ensures.part) c.blanks-i-in-loop-end.result (omega arith) c.if-b-ne44.false c.blanks-i-in-loop-end.ensures.part c.blanks-i-in-loop-end.ensures.stop
+array-loop-end-preserved t c = a_next _ _ _ (a_item _ _ _ _ _ c.loop-end.invariant c.in_ok-value.ensures c.blanks-end.ensures) _ _ c.in_ok-follow.ensures c.blanks-item-in-loop-end.ensures
 
-pub object-returns-then-i-doc : goal.object-returns-then-i-doc
-object-returns-then-i-doc t c = o_none_end c.args.doc.now c.args.depth c.args.at c.blanks-i.result c.blanks-i.ensures.part (omega arith)
+pub object-returns-in-Some : goal.object-returns-in-Some
+object-returns-in-Some t c = o_none _ _ _ c.blanks-member.ensures _ (starts 125 _ _ c.in-Some.ensures.cases.0 c.in-Some.ensures.cases.1)
 
-pub object-returns-then-doc-i-eq125 : goal.object-returns-then-doc-i-eq125
-object-returns-then-doc-i-eq125 t c = o_none c.args.doc.now c.args.depth c.args.at c.blanks-i.result c.blanks-i.ensures.part (omega arith) (omega arith)
+pub object-loop-named-init : goal.object-loop-named-init
+object-loop-named-init t c = o_begin _ _ _ c.blanks-member.ensures c.blanks-member.result.no_blank (starts_not 125 _ c.in_default.ensures.cases)
 
-pub object-loop-start-init : goal.object-loop-start-init
-object-loop-start-init t c = o_begin c.args.doc.now c.args.depth c.args.at c.blanks-i.result c.blanks-i.ensures.part (omega arith) c.blanks-i.ensures.stop (omega arith)
+pub object-returns-in-Some-strip_prefix : goal.object-returns-in-Some-strip_prefix
+object-returns-in-Some-strip_prefix t c = o_close _ _ _ (o_pair _ _ _ _ _ (o_name _ _ _ _ _ c.loop-named.invariant c.in_ok-named.ensures) c.in_ok-value.ensures c.blanks-end.ensures) _ (starts 125 _ _ c.in-Some-strip_prefix.ensures.cases.0 c.in-Some-strip_prefix.ensures.cases.1)
 
-pub object-returns-in_err-start : goal.object-returns-in_err-start
-object-returns-in_err-start t c =
-    let p = err_from_is_err_and c.from_residual.result c.from_residual.ensures.1 in
-    rw (p.1, p.2) (o_no_name c.args.doc.now c.args.depth c.args.at c.loop-start.i c.in_err-start.field-0.0 c.loop-start.invariant c.in_err-start.ensures)
+pub object-returns-in_err-follow : goal.object-returns-in_err-follow
+object-returns-in_err-follow t c =
+    let p = err_from_is_err_and c.from_residual-in_err-follow.result c.from_residual-in_err-follow.ensures.1 in
+    rw (p.1, p.2) (o_pair_bad _ _ _ (o_pair _ _ _ _ _ (o_name _ _ _ _ _ c.loop-named.invariant c.in_ok-named.ensures) c.in_ok-value.ensures c.blanks-end.ensures) _ c.blanks-end.result.no_blank (starts_not 125 _ c.in_default-strip_prefix.ensures.cases) c.in_err-follow.ensures)
 
-pub object-returns-in_err-end : goal.object-returns-in_err-end
-object-returns-in_err-end t c =
-    let p = err_from_is_err_and c.from_residual-in_err-end.result c.from_residual-in_err-end.ensures.1 in
-    rw (p.1, p.2) (o_fail c.args.doc.now c.args.depth c.args.at c.in_ok-start.start.value c.in_err-end.field-0.0 (o_name _ _ _ _ _ _ c.loop-start.invariant c.in_ok-start.ensures) c.in_err-end.ensures)
+pub object-loop-named-preserved : goal.object-loop-named-preserved
+object-loop-named-preserved t c = o_next _ _ _ (o_pair _ _ _ _ _ (o_name _ _ _ _ _ c.loop-named.invariant c.in_ok-named.ensures) c.in_ok-value.ensures c.blanks-end.ensures) _ _ (one_is 44 _ _ c.in_ok-follow.ensures) c.blanks-member-in-loop-named.ensures
 
-pub object-returns-then-next-doc : goal.object-returns-then-next-doc
-object-returns-then-next-doc t c = o_pair_end c.args.doc.now c.args.depth c.args.at c.blanks-next.result (o_pair _ _ _ _ _ _ (o_name _ _ _ _ _ _ c.loop-start.invariant c.in_ok-start.ensures) c.in_ok-end.ensures c.blanks-next.ensures.part) (omega arith)
+pub value-returns-in-Some-Quote : goal.value-returns-in-Some-Quote
+value-returns-in-Some-Quote t c = MatchResult-weaker c.chars.result c.chars.ensures (λ q g. v_string _ _ _ _ c.in-Some.ensures.cases.0 (cc) _ g) (λ q g. v_no_string _ _ _ _ c.in-Some.ensures.cases.0 (cc) _ g)
 
-pub object-returns-then-b-eq125 : goal.object-returns-then-b-eq125
-object-returns-then-b-eq125 t c = o_close c.args.doc.now c.args.depth c.args.at c.blanks-next.result (o_pair _ _ _ _ _ _ (o_name _ _ _ _ _ _ c.loop-start.invariant c.in_ok-start.ensures) c.in_ok-end.ensures c.blanks-next.ensures.part) (omega arith) c.if-b-eq125.true
+pub value-returns-in-Some-Minus : goal.value-returns-in-Some-Minus
+value-returns-in-Some-Minus t c = MatchResult-weaker c.number.result c.number.ensures (λ q g. v_minus _ _ _ _ c.in-Some.ensures.cases.0 (cc) _ g) (λ q g. v_no_minus _ _ _ _ c.in-Some.ensures.cases.0 (cc) _ g)
 
-pub object-returns-then-b-ne44 : goal.object-returns-then-b-ne44
-object-returns-then-b-ne44 t c = o_pair_bad c.args.doc.now c.args.depth c.args.at c.blanks-next.result (o_pair _ _ _ _ _ _ (o_name _ _ _ _ _ _ c.loop-start.invariant c.in_ok-start.ensures) c.in_ok-end.ensures c.blanks-next.ensures.part) (omega arith) c.blanks-next.ensures.stop c.if-b-ne44.true c.if-b-eq125.false
+pub value-returns-in-Some-Zero : goal.value-returns-in-Some-Zero
+value-returns-in-Some-Zero t c = MatchResult-weaker c.number-in-Some-Zero.result c.number-in-Some-Zero.ensures (λ q g. v_zero _ _ _ _ c.in-Some.ensures.cases.0 (cc) _ g) (λ q g. v_no_zero _ _ _ _ c.in-Some.ensures.cases.0 (cc) _ g)
 
-pub object-loop-start-preserved : goal.object-loop-start-preserved
-object-loop-start-preserved t c = o_next c.args.doc.now c.args.depth c.args.at c.blanks-next.result (o_pair _ _ _ _ _ _ (o_name _ _ _ _ _ _ c.loop-start.invariant c.in_ok-start.ensures) c.in_ok-end.ensures c.blanks-next.ensures.part) c.blanks-i-in-loop-start.result (omega arith) c.if-b-ne44.false c.blanks-i-in-loop-start.ensures.part c.blanks-i-in-loop-start.ensures.stop
+pub value-returns-in-Some-Positive : goal.value-returns-in-Some-Positive
+value-returns-in-Some-Positive t c = MatchResult-weaker c.number-in-Some-Positive.result c.number-in-Some-Positive.ensures (λ q g. v_positive _ _ _ _ c.in-Some.ensures.cases.0 (cc) _ g) (λ q g. v_no_positive _ _ _ _ c.in-Some.ensures.cases.0 (cc) _ g)
 
-pub value-returns-then-at-doc : goal.value-returns-then-at-doc
-value-returns-then-at-doc t c = v_end c.args.doc.now c.args.depth c.args.at (omega arith) (omega arith)
+pub value-returns-in-Some-OpenArray : goal.value-returns-in-Some-OpenArray
+value-returns-in-Some-OpenArray t c = MatchResult-weaker c.array.result c.array.ensures (λ q g. v_array _ _ _ _ c.in-Some.ensures.cases.0 (search rules) (cc) _ g) (λ q g. v_no_array _ _ _ _ c.in-Some.ensures.cases.0 (search rules) (cc) _ g)
 
-pub value-returns-in_err-end-in-Quote : goal.value-returns-in_err-end-in-Quote
-value-returns-in_err-end-in-Quote t c =
-    let p = err_from_is_err_and c.from_residual.result c.from_residual.ensures.1 in
-    rw (p.1, p.2) (v_no_string c.args.doc.now c.args.depth c.args.at c.in_err-end-in-Quote.field-0.0 (omega arith) (sym c.in-Quote.ensures) c.in_err-end-in-Quote.ensures)
+pub value-returns-in-Some-OpenObject : goal.value-returns-in-Some-OpenObject
+value-returns-in-Some-OpenObject t c = MatchResult-weaker c.object.result c.object.ensures (λ q g. v_object _ _ _ _ c.in-Some.ensures.cases.0 (search rules) (cc) _ g) (λ q g. v_no_object _ _ _ _ c.in-Some.ensures.cases.0 (search rules) (cc) _ g)
 
-pub value-returns-in_ok-end-in-Quote : goal.value-returns-in_ok-end-in-Quote
-value-returns-in_ok-end-in-Quote t c = v_string c.args.doc.now c.args.depth c.args.at c.in_ok-end-in-Quote.end (omega arith) (sym c.in-Quote.ensures) c.in_ok-end-in-Quote.ensures
+pub value-returns-in-Some-LitT : goal.value-returns-in-Some-LitT
+value-returns-in-Some-LitT t c = MatchResult-weaker c.follow.result c.follow.ensures (λ q g. v_true _ _ _ _ c.in-Some.ensures.cases.0 (cc) _ g) (λ q g. v_no_true _ _ _ _ c.in-Some.ensures.cases.0 (cc) _ g)
 
-pub value-returns-in-Minus : goal.value-returns-in-Minus
-value-returns-in-Minus t c = MatchResult-weaker c.number.result c.number.ensures (λ q g. v_minus c.args.doc.now c.args.depth c.args.at q (omega arith) (sym c.in-Minus.ensures) g) (λ q g. v_no_minus c.args.doc.now c.args.depth c.args.at q (omega arith) (sym c.in-Minus.ensures) g)
+pub value-returns-in-Some-LitF : goal.value-returns-in-Some-LitF
+value-returns-in-Some-LitF t c = MatchResult-weaker c.follow-in-Some-LitF.result c.follow-in-Some-LitF.ensures (λ q g. v_false _ _ _ _ c.in-Some.ensures.cases.0 (cc) _ g) (λ q g. v_no_false _ _ _ _ c.in-Some.ensures.cases.0 (cc) _ g)
 
-pub value-returns-in-Zero : goal.value-returns-in-Zero
-value-returns-in-Zero t c = MatchResult-weaker c.number-in-Zero.result c.number-in-Zero.ensures (λ q g. v_zero c.args.doc.now c.args.depth c.args.at q (omega arith) (sym c.in-Zero.ensures) g) (λ q g. v_no_zero c.args.doc.now c.args.depth c.args.at q (omega arith) (sym c.in-Zero.ensures) g)
-
-pub value-returns-in-Positive : goal.value-returns-in-Positive
-value-returns-in-Positive t c = MatchResult-weaker c.number-in-Positive.result c.number-in-Positive.ensures (λ q g. v_positive c.args.doc.now c.args.depth c.args.at q (omega arith) (sym c.in-Positive.ensures) g) (λ q g. v_no_positive c.args.doc.now c.args.depth c.args.at q (omega arith) (sym c.in-Positive.ensures) g)
-
-pub value-returns-then-depth-eq0 : goal.value-returns-then-depth-eq0
-value-returns-then-depth-eq0 t c = v_deep_array c.args.doc.now c.args.depth c.args.at (omega arith) (sym c.in-OpenArray.ensures) (omega arith)
-
-pub value-returns-else-depth-eq0 : goal.value-returns-else-depth-eq0
-value-returns-else-depth-eq0 t c = MatchResult-weaker c.array.result c.array.ensures (λ q g. v_array c.args.doc.now c.args.depth c.args.at q (omega arith) (omega arith) (sym c.in-OpenArray.ensures) g) (λ q g. v_no_array c.args.doc.now c.args.depth c.args.at q (omega arith) (omega arith) (sym c.in-OpenArray.ensures) g)
-
-pub value-returns-then-depth-eq0-2 : goal.value-returns-then-depth-eq0-2
-value-returns-then-depth-eq0-2 t c = v_deep_object c.args.doc.now c.args.depth c.args.at (omega arith) (sym c.in-OpenObject.ensures) (omega arith)
-
-pub value-returns-else-depth-eq0-2 : goal.value-returns-else-depth-eq0-2
-value-returns-else-depth-eq0-2 t c = MatchResult-weaker c.object.result c.object.ensures (λ q g. v_object c.args.doc.now c.args.depth c.args.at q (omega arith) (omega arith) (sym c.in-OpenObject.ensures) g) (λ q g. v_no_object c.args.doc.now c.args.depth c.args.at q (omega arith) (omega arith) (sym c.in-OpenObject.ensures) g)
-
-pub value-returns-in-LitT : goal.value-returns-in-LitT
-value-returns-in-LitT t c = MatchResult-weaker c.word.result c.word.ensures (λ q g. v_true c.args.doc.now c.args.depth c.args.at q (omega arith) (sym c.in-LitT.ensures) g) (λ q g. v_no_true c.args.doc.now c.args.depth c.args.at q (omega arith) (sym c.in-LitT.ensures) g)
-
-pub value-returns-in-LitF : goal.value-returns-in-LitF
-value-returns-in-LitF t c = MatchResult-weaker c.word-in-LitF.result c.word-in-LitF.ensures (λ q g. v_false c.args.doc.now c.args.depth c.args.at q (omega arith) (sym c.in-LitF.ensures) g) (λ q g. v_no_false c.args.doc.now c.args.depth c.args.at q (omega arith) (sym c.in-LitF.ensures) g)
-
-pub value-returns-in-LitN : goal.value-returns-in-LitN
-value-returns-in-LitN t c = MatchResult-weaker c.word-in-LitN.result c.word-in-LitN.ensures (λ q g. v_null c.args.doc.now c.args.depth c.args.at q (omega arith) (sym c.in-LitN.ensures) g) (λ q g. v_no_null c.args.doc.now c.args.depth c.args.at q (omega arith) (sym c.in-LitN.ensures) g)
-
-pub value-returns-in-Blank : goal.value-returns-in-Blank
-value-returns-in-Blank t c = absurd (v_blank c.args.doc.now c.args.at (omega arith) (sym c.in-Blank.ensures) c.requires.1)
-
-pub value-returns-in-NoStart : goal.value-returns-in-NoStart
-value-returns-in-NoStart t c = v_none c.args.doc.now c.args.depth c.args.at (omega arith) (sym c.in-NoStart.ensures)
+pub value-returns-in-Some-LitN : goal.value-returns-in-Some-LitN
+value-returns-in-Some-LitN t c = MatchResult-weaker c.follow-in-Some-LitN.result c.follow-in-Some-LitN.ensures (λ q g. v_null _ _ _ _ c.in-Some.ensures.cases.0 (cc) _ g) (λ q g. v_no_null _ _ _ _ c.in-Some.ensures.cases.0 (cc) _ g)

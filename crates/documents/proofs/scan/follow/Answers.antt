@@ -1,24 +1,20 @@
-use Rattle.std.proofs.Common.{List, sym, subst, arith, take_all}
-use Rattle.grammar.specs.Grammar.{Seq, q_none}
-use Rattle.grammar.specs.declared.kinds.Class.{Class}
-use Rattle.grammar.specs.declared.kinds.Class.TheVariants.{In}
-use Rattle.documents.specs.Reading.{Part}
-use Rattle.documents.proofs.Parts.{part_none}
-use Rattle.documents.proofs.Words.{class_end, class_bad, class_more}
+use Rattle.std.proofs.Common.{sym, arith}
+use Rattle.documents.proofs.Words.{each_begin, each_more, each_all, each_end, each_bad}
 use Rattle.documents.proofs.scan.follow.Goals as goal
+use Rattle.documents.proofs.scan.follow.Goals.{in_default-via-in-Some+else-is_met_by, in_default-via-in_default}
 
-pub loop-c-init : goal.loop-c-init
-loop-c-init c = part_none _ c.args.doc.now c.args.at c.requires q_none
+pub loop-e-init : goal.loop-e-init
+loop-e-init g c = each_begin _ _ c.args.expected.now c.args.bytes.now
 
-pub returns-then-i-doc : goal.returns-then-i-doc
-returns-then-i-doc c = class_end c.args.doc.now c.args.classes.now c.args.at c.loop-c.i c.loop-c.c-index (In 0 0) c.loop-c.invariant (omega arith) (omega arith)
+pub returns-in_default : goal.returns-in_default
+returns-in_default g c =
+    elim c.in_default.branch [
+      | in_default-via-in-Some+else-is_met_by w ↦ each_bad _ _ _ _ _ c.loop-e.e-index c.e-item.result c.loop-e-test.true c.e-item.is c.loop-e.invariant w.in-Some.tail.now w.in-Some.b.now w.in-Some.ensures.cases.0 (sym w.if-is_met_by.ensures)
+      | in_default-via-in_default w ↦ each_end _ _ _ _ _ c.loop-e.e-index c.e-item.result c.loop-e-test.true c.e-item.is c.loop-e.invariant w.in_default.ensures.cases
+    ]
 
-pub returns-then-not-fits_class : goal.returns-then-not-fits_class
-returns-then-not-fits_class c = class_bad c.args.doc.now c.args.classes.now c.args.at c.loop-c.i c.loop-c.c-index (In 0 0) c.loop-c.invariant (omega arith) (omega arith) (sym c.if-not-fits_class.ensures)
-
-pub loop-c-preserved : goal.loop-c-preserved
-loop-c-preserved c = class_more c.args.doc.now c.args.classes.now c.args.at c.loop-c.i c.loop-c.c-index (In 0 0) c.loop-c.invariant (omega arith) (omega arith) (sym c.if-not-fits_class.ensures)
+pub loop-e-preserved : goal.loop-e-preserved
+loop-e-preserved g c = each_more _ _ _ _ _ _ c.loop-e.e-index c.in-Some.b.now c.e-item.result c.loop-e-test.true c.e-item.is c.loop-e.invariant c.in-Some.ensures.cases.0 (sym c.if-is_met_by.ensures)
 
 pub returns : goal.returns
-returns c =
-    subst (λ (x : List Class). Part (Seq x) c.args.doc.now c.args.at c.loop-c.i) (take_all c.loop-c.c-index c.args.classes.now (omega arith)) c.loop-c.invariant
+returns g c = each_all _ _ _ _ _ c.loop-e.e-index (omega arith) c.loop-e.invariant

@@ -1,15 +1,19 @@
-use Rattle.std.proofs.Common.{sym, inl, inr, arith}
-use Rattle.documents.proofs.Figures.{n_begin, n_more, n_out}
+use Rattle.std.proofs.Common.{sym}
+use Rattle.documents.proofs.Figures.{Over, n_begin, n_more, over_end, over_at, n_ends}
 use Rattle.documents.proofs.scan.number.Goals as goal
+use Rattle.documents.proofs.scan.number.Goals.{in-Some+in_default-next_phase, in_default}
 
-pub loop-i-init : goal.loop-i-init
-loop-i-init c = n_begin c.args.from c.args.doc.now c.args.at c.requires
+pub loop-b-init : goal.loop-b-init
+loop-b-init c = n_begin c.args.from c.args.bytes.now
 
-pub returns-in-Stop : goal.returns-in-Stop
-returns-in-Stop c = n_out c.args.from c.args.doc.now c.args.at c.loop-i.phase c.loop-i.i c.ended.result c.ended.ensures c.loop-i.invariant (inr (omega arith, sym c.in-Stop.ensures))
+pub loop-b-preserved : goal.loop-b-preserved
+loop-b-preserved c = n_more _ _ _ _ _ _ _ c.loop-b.invariant c.in-Some.ensures.cases.0 (sym c.in-Some-next_phase.ensures)
 
-pub loop-i-preserved : goal.loop-i-preserved
-loop-i-preserved c = n_more c.args.from c.args.doc.now c.args.at c.loop-i.phase c.loop-i.i c.in-To.p c.loop-i.invariant (omega arith) (sym c.in-To.ensures)
-
-pub returns : goal.returns
-returns c = n_out c.args.from c.args.doc.now c.args.at c.loop-i.phase c.loop-i.i c.ended-2.result c.ended-2.ensures c.loop-i.invariant (inl (omega arith))
+pub returns-then-may_end : goal.returns-then-may_end
+returns-then-may_end c =
+    let o : Over c.loop-b.phase c.loop-b.rest.now =
+    elim c.match-split_first.branch [
+      | in-Some+in_default-next_phase w ↦ over_at _ _ _ _ w.in-Some.ensures.cases.0 (sym w.in_default-next_phase.ensures)
+      | in_default w ↦ over_end _ _ w.in_default.ensures.cases
+    ] in
+    n_ends _ _ _ _ c.loop-b.invariant o (sym c.if-may_end.ensures)

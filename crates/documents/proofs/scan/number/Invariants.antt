@@ -1,9 +1,9 @@
-use Rattle.std.proofs.Common.{◌-◌, length}
+use Rattle.std.proofs.Common.{length}
 use Rattle.documents.proofs.Figures.{NumberAt}
 use Rattle.documents.proofs.scan.number.Given as goal
 
-abbrev pub invariant-loop-i : goal.invariant-loop-i
-invariant-loop-i l = NumberAt l.initial.phase l.doc l.at l.phase l.i
+abbrev pub invariant-loop-b : goal.invariant-loop-b
+invariant-loop-b l = NumberAt l.initial.phase l.bytes l.phase l.rest
 
-abbrev pub decreases-loop-i : goal.decreases-loop-i
-decreases-loop-i l = length l.doc - l.i
+abbrev pub decreases-loop-b : goal.decreases-loop-b
+decreases-loop-b l = length l.rest

@@ -1,25 +1,26 @@
-use Rattle.std.proofs.Common.{arith}
-use Rattle.documents.proofs.Objects.{o_none_end, o_pair_end, o_pair_bad}
-use Rattle.members.proofs.Walks.{w_none, w_begin, w_pair, w_close, w_next}
+use Rattle.std.proofs.Common.{refl, sym}
+use Rattle.documents.proofs.Words.{begins, begins_not, starts, starts_not}
+use Rattle.documents.proofs.Objects.{o_pair_stops}
+use Rattle.members.proofs.Walks.{from_place, w_none, w_begin, w_pair, w_close, w_next}
 use Rattle.members.proofs.walk.walk.Goals as goal
 
-pub returns-then-cursor-doc : goal.returns-then-cursor-doc
-returns-then-cursor-doc c = o_none_end c.args.doc.now c.args.depth c.args.at c.blanks-cursor.result c.blanks-cursor.ensures.part (omega arith)
+pub returns-then-starts_with : goal.returns-then-starts_with
+returns-then-starts_with c = w_none _ _ _ _ _ _ c.requires (from_place c.args.doc.now c.args.cursor.now.offset _ c.blanks-member.ensures) (begins 125 _ (sym c.if-starts_with.ensures.value))
 
-pub returns-then-doc-cursor-eq125 : goal.returns-then-doc-cursor-eq125
-returns-then-doc-cursor-eq125 c = w_none c.args.doc.now c.args.depth c.args.at c.blanks-cursor.result c.args.want.now c.blanks-cursor.ensures.part (omega arith) (omega arith)
+pub loop-named-init : goal.loop-named-init
+loop-named-init c = w_begin _ _ _ _ _ (from_place c.args.doc.now c.args.cursor.now.offset _ c.blanks-member.ensures) c.blanks-member.result.no_blank (begins_not 125 _ (sym c.if-starts_with.ensures.value))
 
-pub loop-start-init : goal.loop-start-init
-loop-start-init c = w_begin c.args.doc.now c.args.depth c.args.at c.blanks-cursor.result c.args.want.now c.blanks-cursor.ensures.part (omega arith) c.blanks-cursor.ensures.stop (omega arith)
+pub returns-then-starts_with-2 : goal.returns-then-starts_with-2
+returns-then-starts_with-2 c =
+    let p = w_pair _ _ _ _ _ _ _ _ _ _ _ _ c.or-found.result c.requires c.loop-named.invariant c.in_ok-named.ensures c.in_ok-behind.ensures c.blanks-end.ensures refl c.name_is.ensures (cc) in
+    w_close _ _ _ _ _ _ _ c.requires p (begins 125 _ (sym c.if-starts_with-2.ensures.value))
 
-pub returns-then-next-doc : goal.returns-then-next-doc
-returns-then-next-doc c = o_pair_end c.args.doc.now c.args.depth c.args.at c.blanks-next.result (w_pair c.args.doc.now c.args.depth c.args.at c.loop-start.cursor.offset c.in_ok-start.start.end c.args.want.now c.loop-start.found (record { from = c.in_ok-start.start.value; to = c.in_ok-end.end }) c.blanks-next.result c.name_at-is.result c.keep_first-found.result c.loop-start.invariant c.in_ok-start.ensures c.in_ok-end.ensures c.blanks-next.ensures.part c.name_at-is.ensures c.keep_first-found.ensures).pair (omega arith)
+pub returns-in_default : goal.returns-in_default
+returns-in_default c =
+    let p = w_pair _ _ _ _ _ _ _ _ _ _ _ _ c.or-found.result c.requires c.loop-named.invariant c.in_ok-named.ensures c.in_ok-behind.ensures c.blanks-end.ensures refl c.name_is.ensures (cc) in
+    o_pair_stops _ _ _ p.pair c.blanks-end.result.no_blank (begins_not 125 _ (sym c.if-starts_with-2.ensures.value)) (starts_not 44 _ c.in_default.ensures.cases)
 
-pub returns-then-b-eq125 : goal.returns-then-b-eq125
-returns-then-b-eq125 c = w_close c.args.doc.now c.args.depth c.args.at c.blanks-next.result c.args.want.now c.keep_first-found.result (w_pair c.args.doc.now c.args.depth c.args.at c.loop-start.cursor.offset c.in_ok-start.start.end c.args.want.now c.loop-start.found (record { from = c.in_ok-start.start.value; to = c.in_ok-end.end }) c.blanks-next.result c.name_at-is.result c.keep_first-found.result c.loop-start.invariant c.in_ok-start.ensures c.in_ok-end.ensures c.blanks-next.ensures.part c.name_at-is.ensures c.keep_first-found.ensures) (omega arith) c.if-b-eq125.true
-
-pub returns-then-b-ne44 : goal.returns-then-b-ne44
-returns-then-b-ne44 c = o_pair_bad c.args.doc.now c.args.depth c.args.at c.blanks-next.result (w_pair c.args.doc.now c.args.depth c.args.at c.loop-start.cursor.offset c.in_ok-start.start.end c.args.want.now c.loop-start.found (record { from = c.in_ok-start.start.value; to = c.in_ok-end.end }) c.blanks-next.result c.name_at-is.result c.keep_first-found.result c.loop-start.invariant c.in_ok-start.ensures c.in_ok-end.ensures c.blanks-next.ensures.part c.name_at-is.ensures c.keep_first-found.ensures).pair (omega arith) c.blanks-next.ensures.stop c.if-b-ne44.true c.if-b-eq125.false
-
-pub loop-start-preserved : goal.loop-start-preserved
-loop-start-preserved c = w_next c.args.doc.now c.args.depth c.args.at c.blanks-next.result c.blanks-cursor-in-loop-start.result c.args.want.now c.keep_first-found.result (w_pair c.args.doc.now c.args.depth c.args.at c.loop-start.cursor.offset c.in_ok-start.start.end c.args.want.now c.loop-start.found (record { from = c.in_ok-start.start.value; to = c.in_ok-end.end }) c.blanks-next.result c.name_at-is.result c.keep_first-found.result c.loop-start.invariant c.in_ok-start.ensures c.in_ok-end.ensures c.blanks-next.ensures.part c.name_at-is.ensures c.keep_first-found.ensures) (omega arith) c.if-b-ne44.false c.blanks-cursor-in-loop-start.ensures.part c.blanks-cursor-in-loop-start.ensures.stop
+pub loop-named-preserved : goal.loop-named-preserved
+loop-named-preserved c =
+    let p = w_pair _ _ _ _ _ _ _ _ _ _ _ _ c.or-found.result c.requires c.loop-named.invariant c.in_ok-named.ensures c.in_ok-behind.ensures c.blanks-end.ensures refl c.name_is.ensures (cc) in
+    w_next _ _ _ _ _ _ _ _ p (starts 44 _ _ c.in-Some.ensures.cases.0 c.in-Some.ensures.cases.1) c.blanks-member-in-loop-named.ensures

@@ -1,9 +1,9 @@
-use Rattle.std.proofs.Common.{◌-◌, length}
+use Rattle.std.proofs.Common.{length}
 use Rattle.members.proofs.Walks.{Walking}
 use Rattle.members.proofs.walk.walk.Given as goal
 
-abbrev pub invariant-loop-start : goal.invariant-loop-start
-invariant-loop-start l = Walking l.doc l.depth l.at l.cursor.offset l.want l.found
+abbrev pub invariant-loop-named : goal.invariant-loop-named
+invariant-loop-named l = Walking l.doc l.depth l.initial.cursor.offset l.member.bytes.now l.want l.found
 
-abbrev pub decreases-loop-start : goal.decreases-loop-start
-decreases-loop-start l = length l.doc - l.cursor.offset
+abbrev pub decreases-loop-named : goal.decreases-loop-named
+decreases-loop-named l = length l.member.bytes.now
