@@ -1,14 +1,12 @@
-use Rattle.std.proofs.Common.{refl, arith}
-use Rattle.table.proofs.Slides.{take_closed, ascending_closed}
+use Rattle.std.proofs.Common.{◌-◌, arith}
+use Rattle.table.proofs.Slides.{take_closed}
 use Rattle.table.proofs.rows.Table.remove.Goals as goal
 
-pub returns : goal.returns
-returns g c =
-    let o = c.close.ensures in
-    record {
-      within = omega (arith, o.long, c.requires.within);
-      ascends = ascending_closed g.T.Ordered.before _ _ _ _ _ o (omega (arith, c.requires.place)) c.requires.ascends;
-      room = o.long;
-      same = refl;
-      rows = (omega (arith, c.requires.place), take_closed _ _ _ _ _ o c.requires.place c.requires.within (omega (arith, c.requires.place)));
-    }
+pub returns-clause-rows : goal.returns-clause-rows
+returns-clause-rows g c =
+    let found = c.in_ok-x.ensures in (
+      found.0,
+      found.1,
+      omega (arith, found.0),
+      take_closed c.args.self.now.slots.now c.close.new.slots c.args.i c.args.self.now.len (c.args.self.now.len - 1) c.close.ensures found.0 c.args.self.now.within (omega (arith, found.0)),
+    )
