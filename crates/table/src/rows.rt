@@ -15,6 +15,7 @@ pub enum Refusal {
 }
 
 // The records in the first `len` of the lent slots, ascending.
+// Kept: no heap in the engine, so the records lie in lent slots with their number beside them.
 #[derive(Drop)]
 pub struct Table<'a, T: Ord> {
     slots: &'a mut [T],

@@ -77,6 +77,7 @@ impl<T: Ord + Copy> Table<'_, T> {
     }
 
     // Puts a record in at an index that parts those before it from those after it.
+    #[tactic(auto, using(crate::proofs::Slides::take_opened))]
     fn put(&mut self, i: usize, x: T)
         requires within { self.old.len < length self.old.slots.now }
         requires place { Parts (before T.cmp) self.old.slots.now self.old.len x i }
@@ -110,6 +111,7 @@ impl<T: Ord + Copy> Table<'_, T> {
     }
 
     // Takes out the record at an index, if there are so many.
+    #[tactic(auto, using(crate::proofs::Slides::take_closed))]
     pub fn remove(&mut self, i: usize) -> Option<T>
         ensures room { length self.new.slots.now ≡ length self.old.slots.now }
         ensures same { self.new.slots.ghost_name ≡ self.old.slots.ghost_name }

@@ -1,23 +1,21 @@
 // Pairs set and erased.
 ghost use Rattle.stores.specs.Meaning.{Set, Erase};
-ghost use Rattle.shelves.specs.Meant.{Sound, meaning, Lent};
+ghost use Rattle.shelves.specs.Meant.{meaning, Lent};
 
-use super::Raw;
-use crate::slot::Slot;
+use super::Shelf;
+use crate::lay::slot_at;
 use keys::{StoreFault, StoreKey};
 
-impl Raw<'_> {
+impl Shelf<'_> {
     // Gives a key a value, if there is a slot and there are bytes for it.
-    pub(crate) fn set(&mut self, key: &[u8], value: &[u8]) -> Result<(), StoreFault>
-        requires { Sound self.old }
-        ensures sound { Sound self.new }
+    pub(super) fn put(&mut self, key: &[u8], value: &[u8]) -> Result<(), StoreFault>
         ensures lent { Lent self.old self.new }
         ensures means { Set key.now value.now (meaning self.old) (meaning self.new) result }
     {
         let key = StoreKey::new(key)?;
         match self.find(&key) {
             Ok(i) => {
-                let old = self.rows.at(i).size;
+                let old = slot_at(&self.rows, i).span.size;
                 if value.len() > self.bytes.len() - (self.used - old) {
                     return Err(StoreFault::NotTaken);
                 }
@@ -39,9 +37,7 @@ impl Raw<'_> {
     }
 
     // Removes a key and its value.
-    pub(crate) fn erase(&mut self, key: &[u8]) -> Result<(), StoreFault>
-        requires { Sound self.old }
-        ensures sound { Sound self.new }
+    pub(super) fn remove(&mut self, key: &[u8]) -> Result<(), StoreFault>
         ensures lent { Lent self.old self.new }
         ensures means { Erase key.now (meaning self.old) (meaning self.new) result }
     {
