@@ -1,4 +1,3 @@
-mod Ranks
 mod Laying
 pub mod Sought
 mod Rising
@@ -6,4 +5,3 @@ mod Splicing
 mod Moves
 mod Changed
 pub mod Writing
-mod Whole

@@ -34,31 +34,31 @@ put_in fs bs k p b e h l r =
     }
 
 -- an empty value taken out from between them
-pub take_out : (fs bs : List Slot) (s : Slot) (b : Bytes) → s.size ≡ 0 → placed 0 (fs ++ (s ∷ bs)) ≡ true → AllBelow (key_text s.key) (entries fs b)
+pub take_out : (fs bs : List Slot) (s : Slot) (b : Bytes) → s.span.size ≡ 0 → placed 0 (fs ++ (s ∷ bs)) ≡ true → AllBelow (key_text s.key) (entries fs b)
     → Held (fs ++ bs) b (total (fs ++ (s ∷ bs))) (removed (key_text s.key) (entries (fs ++ (s ∷ bs)) b))
 take_out fs bs s b e h l =
     let t = total-append fs bs in
     let u = total-append fs (s ∷ bs) in
     let y = drop (total fs) b in
-    let back : placed (0 + total fs + s.size) bs ≡ true = placed-tail (0 + total fs) s bs (placed_back 0 fs (s ∷ bs) h) in
-    let z : 0 + total fs + s.size ≡ 0 + total fs = omega arith in
-    let same : entries bs (drop s.size y) ≡ entries bs y = ap (λ n. entries bs (drop n y)) e in
-    let whole : entries (fs ++ (s ∷ bs)) b ≡ entries fs b ++ (pair (key_text s.key) (take s.size y) ∷ entries bs y) = entries-append fs (s ∷ bs) b ∙ ap (λ (ps : Pairs). entries fs b ++ (pair (key_text s.key) (take s.size y) ∷ ps)) same in
+    let back : placed (0 + total fs + s.span.size) bs ≡ true = placed-tail (0 + total fs) s bs (placed_back 0 fs (s ∷ bs) h) in
+    let z : 0 + total fs + s.span.size ≡ 0 + total fs = omega arith in
+    let same : entries bs (drop s.span.size y) ≡ entries bs y = ap (λ n. entries bs (drop n y)) e in
+    let whole : entries (fs ++ (s ∷ bs)) b ≡ entries fs b ++ (pair (key_text s.key) (take s.span.size y) ∷ entries bs y) = entries-append fs (s ∷ bs) b ∙ ap (λ (ps : Pairs). entries fs b ++ (pair (key_text s.key) (take s.span.size y) ∷ ps)) same in
     record {
       sum = omega arith;
       places = placed-append 0 fs bs (placed_front 0 fs (s ∷ bs) h) (rw z at back);
-      pairs = entries-append fs bs b ∙ sym (removed_between (key_text s.key) (take s.size y) (entries fs b) (entries bs y) l) ∙ ap (removed (key_text s.key)) (sym whole);
+      pairs = entries-append fs bs b ∙ sym (removed_between (key_text s.key) (take s.span.size y) (entries fs b) (entries bs y) l) ∙ ap (removed (key_text s.key)) (sym whole);
     }
 
 -- a value replaced: c are the bytes then, what was before it, the new value, what was behind it, and the rest
 pub put_over : (fs bs : List Slot) (s : Slot) (v b c tail : Bytes) (used : ℕ) → total (fs ++ (s ∷ bs)) ≡ used → used ≤ length b → placed 0 (fs ++ (s ∷ bs)) ≡ true → AllBelow (key_text s.key) (entries fs b)
-    → c ≡ take s.place b ++ (v ++ (take (used - (s.place + s.size)) (drop (s.place + s.size) b) ++ tail))
-    → Held (fs ++ (slot s.key s.place (length v) ∷ laid (s.place + length v) bs)) c (used - s.size + length v) (inserted (key_text s.key) v (entries (fs ++ (s ∷ bs)) b))
+    → c ≡ take s.span.place b ++ (v ++ (take (used - (s.span.place + s.span.size)) (drop (s.span.place + s.span.size) b) ++ tail))
+    → Held (fs ++ (slot s.key s.span.place (length v) ∷ laid (s.span.place + length v) bs)) c (used - s.span.size + length v) (inserted (key_text s.key) v (entries (fs ++ (s ∷ bs)) b))
 put_over fs bs s v b c tail used sum within h l e =
     let k = key_text s.key in
-    let p = s.place in
+    let p = s.span.place in
     let q = p + length v in
-    let old = s.size in
+    let old = s.span.size in
     let m = used - (p + old) in
     let x = slot s.key p (length v) in
     let t = total-append fs (s ∷ bs) in

@@ -1,24 +1,15 @@
--- The two ways to say that slots ascend, and what a place among them says of the keys.
+-- What a place among ascending slots says of the keys.
 -- Assumes nothing.
-use Rattle.std.proofs.Common.{◌≡◌, ℕ, ◌+◌, ◌-◌, ◌<◌, ◌≤◌, true, List, length, get_or, take, drop, ap, ◌∙◌, subst, arith}
+use Rattle.std.proofs.Common.{◌≡◌, ℕ, ◌+◌, ◌<◌, ◌≤◌, true, List, length, get_or, take, drop, ap, ◌∙◌, arith}
 use Rattle.std.proofs.lemmas.List.{get_or-take, get_or-drop, length-take-le, length-take, length-drop}
 use Rattle.text.specs.Bytes.{Bytes}
 use Rattle.keys.specs.Values.{key_text}
 use Rattle.stores.specs.Pairs.{AllAbove}
-use Rattle.table.specs.Order.{Ascending}
 use Rattle.shelves.specs.declared.slot.Slot.{Slot}
-use Rattle.shelves.specs.Slots.{slot_before, entries, Up}
+use Rattle.shelves.specs.Slots.{slot_before, entries}
+use Rattle.shelves.specs.Ranks.{by_keys}
 use Rattle.shelves.specs.Holds.{above_entries}
 use Rattle.shelves.proofs.Sought.{AllBelow, below_entries}
-
-pub ascending_from_up : (xs : List Slot) (n : ℕ) → Up xs n → Ascending slot_before xs n
-ascending_from_up xs n up i j d l h =
-    let e : i + (j - i - 1) + 1 ≡ j = omega arith in
-    let P : ℕ → Type 0 = λ m. slot_before (get_or xs i d) (get_or xs m d) ≡ true in
-    subst P e (up (i, j - i - 1) d (omega arith))
-
-pub up_from_ascending : (xs : List Slot) (n : ℕ) → Ascending slot_before xs n → Up xs n
-up_from_ascending xs n a p d h = a p.0 (p.0 + p.1 + 1) d (omega arith) h
 
 -- what comes before a place has smaller keys, and what comes from there on greater ones
 pub front_below : (xs : List Slot) (n i : ℕ) (x : Slot) (b : Bytes) → i ≤ n → ((k : ℕ) (d : Slot) → k < i → slot_before (get_or xs k d) x ≡ true) → AllBelow (key_text x.key) (entries (take i (take n xs)) b)
@@ -27,7 +18,7 @@ front_below xs n i x b le h =
     (λ j d l.
     let m = length-take i (take n xs) in
     let e : get_or (take i (take n xs)) j d ≡ get_or xs j d = get_or-take i (take n xs) j d (omega arith) ∙ get_or-take n xs j d (omega arith) in
-    ap (λ (s : Slot). slot_before s x) e ∙ h j d (omega arith))
+    by_keys (get_or (take i (take n xs)) j d) x ∙ ap (λ (s : Slot). slot_before s x) e ∙ h j d (omega arith))
 
 pub back_above : (xs : List Slot) (n i : ℕ) (x : Slot) (b : Bytes) → n ≤ length xs → ((k : ℕ) (d : Slot) → i ≤ k → k < n → slot_before x (get_or xs k d) ≡ true) → AllAbove (key_text x.key) (entries (drop i (take n xs)) b)
 back_above xs n i x b w h =
@@ -36,4 +27,4 @@ back_above xs n i x b w h =
     let m = length-drop i (take n xs) in
     let t = length-take-le n xs w in
     let e : get_or (drop i (take n xs)) j d ≡ get_or xs (i + j) d = get_or-drop i (take n xs) j d ∙ get_or-take n xs (i + j) d (omega arith) in
-    ap (λ (s : Slot). slot_before x s) e ∙ h (i + j) d (omega arith) (omega arith))
+    by_keys x (get_or (drop i (take n xs)) j d) ∙ ap (λ (s : Slot). slot_before x s) e ∙ h (i + j) d (omega arith) (omega arith))

@@ -88,4 +88,4 @@ weight-append (a ∷ ps) qs = let ih = weight-append ps qs in omega arith
 
 pub below_entries : (k : Bytes) (xs : List Slot) (b : Bytes) → ((j : ℕ) (d : Slot) → j < length xs → before (key_text (get_or xs j d).key) k ≡ true) → AllBelow k (entries xs b)
 below_entries k [] b h = tt
-below_entries k (s ∷ ss) b h = (h 0 s (omega arith), below_entries k ss (drop s.size b) (λ j d l. h (suc j) d (omega arith)))
+below_entries k (s ∷ ss) b h = (h 0 s (omega arith), below_entries k ss (drop s.span.size b) (λ j d l. h (suc j) d (omega arith)))

@@ -1,47 +1,46 @@
 -- What slots and bytes mean. The values lie one after the other, in the order of the slots: a slot's value begins where the sizes before it end, and its place says where that is.
 -- Assumes nothing.
-use Rattle.std.specs.Prelude.{◌≡◌, ℕ, ◌+◌, ◌<◌, ◌≤◌, Bool, true, ◌&&◌, List, [], ◌∷◌, length, take, drop, replicate, ◌==◌, nat_le, slice_index_or}
-use Rattle.text.specs.Bytes.{Bytes, before}
+use Rattle.std.specs.Prelude.{ℕ, ◌+◌, Bool, true, ◌&&◌, List, [], ◌∷◌, length, take, drop, replicate, ◌==◌, nat_le}
+use Rattle.std.specs.declared.cmp.Ordering.{Ordering}
+use Rattle.text.specs.Bytes.{Bytes, byte_order}
 use Rattle.keys.specs.Values.{key_text}
 use Rattle.keys.specs.declared.store_key.StoreKey.{StoreKey}
+use Rattle.table.specs.Order.{before}
 use Rattle.stores.specs.Pairs.{Pairs, pair, inserted}
 use Rattle.shelves.specs.declared.slot.Slot.{Slot}
 
 abbrev pub slot : StoreKey → ℕ → ℕ → Slot
-slot k p n = record { key = k; place = p; size = n }
+slot k p n = record { key = k; span = record { place = p; size = n } }
 
 -- slots are ordered by the bytes of their keys
+abbrev pub slot_text : Slot → Bytes
+slot_text s = key_text s.key
+
+abbrev pub slot_order : Slot → Slot → Ordering
+slot_order a b = byte_order (slot_text a) (slot_text b)
+
 abbrev pub slot_before : Slot → Slot → Bool
-slot_before a b = before (key_text a.key) (key_text b.key)
+slot_before = before slot_order
 
 -- the pairs of some slots over the bytes that their values begin in
 abbrev pub entries : List Slot → Bytes → Pairs
 entries [] b = []
-entries (s ∷ ss) b = pair (key_text s.key) (take s.size b) ∷ entries ss (drop s.size b)
+entries (s ∷ ss) b = pair (key_text s.key) (take s.span.size b) ∷ entries ss (drop s.span.size b)
 
 -- the bytes of all values
 abbrev pub total : List Slot → ℕ
 total [] = 0
-total (s ∷ ss) = s.size + total ss
+total (s ∷ ss) = s.span.size + total ss
 
 -- each place is where the sizes before it end
 abbrev pub placed : ℕ → List Slot → Bool
 placed p [] = true
-placed p (s ∷ ss) = s.place == p && placed (p + s.size) ss
+placed p (s ∷ ss) = s.span.place == p && placed (p + s.span.size) ss
 
 -- the same slots with their places set so
 abbrev pub laid : ℕ → List Slot → List Slot
 laid p [] = []
-laid p (s ∷ ss) = slot s.key p s.size ∷ laid (p + s.size) ss
-
--- the first n slots strictly ascend: each comes before the one that stands some places behind it
-abbrev pub Up : List Slot → ℕ → Type 0
-Up xs n = (p : ℕ × ℕ) (d : Slot) → p.0 + p.1 + 1 < n → slot_before (slice_index_or xs p.0 d) (slice_index_or xs (p.0 + p.1 + 1) d) ≡ true
-
--- what a shelf keeps of its slots, how many are in use, its bytes, and how many of those are in use
-abbrev pub SoundOf : List Slot → ℕ → Bytes → ℕ → Type 0
-SoundOf slots len bytes used =
-    (len ≤ length slots) × (used ≤ length bytes) × (total (take len slots) ≡ used) × (placed 0 (take len slots) ≡ true) × Up slots len
+laid p (s ∷ ss) = slot s.key p s.span.size ∷ laid (p + s.span.size) ss
 
 -- the bytes of all values of some pairs
 abbrev pub weight : Pairs → ℕ

@@ -2,8 +2,7 @@
 ghost use Rattle.shelves.specs.Laws.{TakesExactly};
 
 // A pair is taken exactly if afterwards the pairs fit the slots and all values fit the bytes.
-pub fn takes_what_fits() -> u8
+#[tactic(auto, using(crate::proofs::Writing::takes_exactly))]
+pub fn takes_what_fits()
     ensures { TakesExactly }
-{
-    0
-}
+{}

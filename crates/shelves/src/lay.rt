@@ -1,29 +1,32 @@
-// Slots given their places.
-ghost use Rattle.std.specs.Prelude.{◌≡◌, ◌+◌, ◌^◌, ◌<◌, ◌≤◌, ◌++◌, length, take, drop};
-ghost use Rattle.shelves.specs.Slots.{total, laid, Up};
+// Slots read by index, and given their places.
+ghost use Rattle.std.specs.Prelude.{◌≡◌, ◌+◌, ◌^◌, ◌<◌, ◌≤◌, ◌++◌, length, take, drop, slice_index_or};
+ghost use Rattle.shelves.specs.declared.slot.Slot.{Slot};
+ghost use Rattle.shelves.specs.Slots.{total, laid};
 
-use crate::slot::Slot;
+use crate::slot::{Slot, Span};
 use table::Table;
+
+// The slot at an index.
+pub(crate) fn slot_at<'t>(rows: &'t Table<Slot>, i: usize) -> &'t Slot
+    requires { i < rows.now.len }
+    ensures { (d : Slot) → result.now ≡ slice_index_or rows.now.slots.now i d }
+{
+    rows.get(i).unwrap()
+}
 
 // Sets the places of the slots from an index on, the first of them to `place`.
 pub(crate) fn lay(rows: &mut Table<Slot>, from: usize, place: usize)
-    requires within { rows.old.len ≤ length rows.old.slots.now }
-    requires ascends { Up rows.old.slots.now rows.old.len }
     requires start { from ≤ rows.old.len }
     requires short { place + total (drop from (take rows.old.len rows.old.slots.now)) < 2 ^ 64 }
     ensures len { rows.new.len ≡ rows.old.len }
     ensures room { length rows.new.slots.now ≡ length rows.old.slots.now }
     ensures same { rows.new.slots.ghost_name ≡ rows.old.slots.ghost_name }
-    ensures ascends { Up rows.new.slots.now rows.new.len }
     ensures rows { take rows.new.len rows.new.slots.now ≡ take from (take rows.old.len rows.old.slots.now) ++ laid place (drop from (take rows.old.len rows.old.slots.now)) }
 {
     let mut place = place;
-    let mut i = from;
-    while i < rows.len() {
-        let mut slot = *rows.at(i);
-        slot.place = place;
-        place += slot.size;
-        rows.replace(i, slot);
-        i += 1;
+    for i in from..rows.len() {
+        let size = slot_at(rows, i).span.size;
+        rows.set_rest(i, Span { place, size });
+        place += size;
     }
 }

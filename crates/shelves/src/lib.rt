@@ -3,11 +3,10 @@
 
 mod laws;
 mod lay;
-mod raw;
 mod shelf;
 mod slot;
 mod splice;
 
 pub use laws::takes_what_fits;
 pub use shelf::Shelf;
-pub use slot::Slot;
+pub use slot::{Slot, Span};

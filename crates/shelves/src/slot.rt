@@ -6,6 +6,12 @@ use keys::StoreKey;
 #[derive(Clone, Copy)]
 pub struct Slot {
     pub(crate) key: StoreKey,
+    pub(crate) span: Span,
+}
+
+// Where a value lies among the bytes: at its place, as many as its size.
+#[derive(Clone, Copy)]
+pub struct Span {
     pub(crate) place: usize,
     pub(crate) size: usize,
 }

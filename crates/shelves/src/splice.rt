@@ -2,6 +2,7 @@
 ghost use Rattle.std.specs.Prelude.{◌≡◌, ◌+◌, ◌-◌, ◌≤◌, ◌++◌, length, take, drop};
 
 // Puts a text in the place of the `old` bytes at `place` and moves what is in use behind them.
+#[tactic(auto, using(crate::proofs::Splicing::spliced))]
 pub(crate) fn splice(bytes: &mut [u8], place: usize, old: usize, used: usize, text: &[u8])
     requires part { place + old ≤ used }
     requires within { used ≤ length bytes.old }

@@ -1,2 +1,2 @@
-mod Halving
+mod Searching
 mod Slides

@@ -1,6 +1,12 @@
 -- A run of records in ascending order: where a record stands in it, and what putting one in or taking one out does.
 -- Assumes nothing.
 use Rattle.std.specs.Prelude.{◌≡◌, ℕ, ◌+◌, ◌<◌, ◌≤◌, Bool, true, false, List, length, Result, MatchResult, slice_index_or}
+use Rattle.std.specs.Ordering.{is_lt}
+use Rattle.std.specs.declared.cmp.Ordering.{Ordering}
+
+-- x stands before y in the order that cmp computes
+abbrev pub before : {X : Type 0} → (X → X → Ordering) → X → X → Bool
+before cmp x y = is_lt (cmp x y)
 
 -- the first n elements of xs strictly ascend
 abbrev pub Ascending : {X : Type 0} → (X → X → Bool) → List X → ℕ → Type 0

@@ -1,11 +1,11 @@
 // The table: a run of lent slots and how many of them hold a record.
-ghost use Rattle.std.specs.Prelude.{◌≡◌, ◌<◌, ◌≤◌, length, slice_index_or};
-ghost use Rattle.table.specs.Order.{Ascending, Located};
+ghost use Rattle.std.specs.Prelude.{◌≡◌, ◌<◌, ◌≤◌, length, take, slice_index_or, MatchOption};
+ghost use Rattle.table.specs.Order.{before, Ascending, Located};
 
 mod edit;
+mod record;
 
-use crate::order::Ordered;
-use crate::search::find;
+pub use record::Record;
 
 // Why a record is not put in: every slot is taken, or one that is the same stands at an index.
 #[derive(Clone, Copy, PartialEq, Eq, Debug)]
@@ -15,13 +15,16 @@ pub enum Refusal {
 }
 
 // The records in the first `len` of the lent slots, ascending.
+// Kept: no heap in the engine, so the records lie in lent slots with their number beside them.
 #[derive(Drop)]
-pub struct Table<'a, T> {
+pub struct Table<'a, T: Ord> {
     slots: &'a mut [T],
     len: usize,
+    pub ghost within: { len ≤ length slots.now },
+    pub ghost ascends: { Ascending (before T.cmp) slots.now len },
 }
 
-impl<'a, T> Table<'a, T> {
+impl<'a, T: Ord> Table<'a, T> {
     // A table with no record.
     pub fn new(slots: &'a mut [T]) -> Table<'a, T>
         ensures empty { result.len ≡ 0 }
@@ -30,7 +33,9 @@ impl<'a, T> Table<'a, T> {
     {
         Table { slots, len: 0 }
     }
+}
 
+impl<T: Ord> Table<'_, T> {
     // How many records there are.
     pub fn len(&self) -> usize
         ensures { result ≡ self.now.len }
@@ -45,24 +50,24 @@ impl<'a, T> Table<'a, T> {
         self.slots.len()
     }
 
-    // The record at an index.
-    pub fn at(&self, i: usize) -> &T
-        requires within { self.now.len ≤ length self.now.slots.now }
-        requires place { i < self.now.len }
-        ensures { (d : T) → result.now ≡ slice_index_or self.now.slots.now i d }
+    // The records, ascending.
+    fn records(&self) -> &[T]
+        ensures { result.now ≡ take self.now.len self.now.slots.now }
     {
-        let slots = &*self.slots;
-        &slots[i]
+        &self.slots[..self.len]
     }
-}
 
-impl<T: Ordered + Copy> Table<'_, T> {
+    // The record at an index, if there are so many.
+    pub fn get(&self, i: usize) -> Option<&T>
+        ensures { MatchOption result (self.now.len ≤ i) (λ x. (i < self.now.len) × ((d : T) → x.now ≡ slice_index_or self.now.slots.now i d)) }
+    {
+        self.records().get(i)
+    }
+
     // Where a record stands, or where it would.
     pub fn find(&self, x: &T) -> Result<usize, usize>
-        requires within { self.now.len ≤ length self.now.slots.now }
-        requires ascends { Ascending T.before self.now.slots.now self.now.len }
-        ensures { Located T.before self.now.slots.now self.now.len x.now result }
+        ensures { Located (before T.cmp) self.now.slots.now self.now.len x.now result }
     {
-        find(self.slots, self.len, x)
+        self.records().binary_search(x)
     }
 }

@@ -8,11 +8,7 @@ pub(crate) fn open<T: Copy>(slots: &mut [T], i: usize, len: usize, x: T)
     requires place { i ≤ len }
     ensures { Opened slots.old slots.new i len x }
 {
-    let mut k = len;
-    while k > i {
-        slots[k] = slots[k - 1];
-        k -= 1;
-    }
+    slots.copy_within(i..len, i + 1);
     slots[i] = x;
 }
 
@@ -22,9 +18,5 @@ pub(crate) fn close<T: Copy>(slots: &mut [T], i: usize, len: usize)
     requires place { i < len }
     ensures { Closed slots.old slots.new i len }
 {
-    let mut k = i + 1;
-    while k < len {
-        slots[k - 1] = slots[k];
-        k += 1;
-    }
+    slots.copy_within(i + 1..len, i);
 }

@@ -3,29 +3,30 @@ ghost use Rattle.shelves.specs.Meant.{pairs_in};
 ghost use Rattle.shelves.specs.Holds.{entries_lawful};
 
 use super::Shelf;
+use crate::slot::Span;
 use runs::PairRun;
 
 impl PairRun for Shelf<'_> {
-    ghost pairs = { λ s. pairs_in s.raw };
+    ghost pairs = { λ s. pairs_in s };
 
-    ghost lawful = { λ s. entries_lawful s.raw.rows.slots.now s.raw.rows.len s.raw.bytes.now s.ascends };
+    ghost lawful = { λ s. entries_lawful s.rows.slots.now s.rows.len s.bytes.now s.rows.ascends };
 
     fn count(&self) -> usize {
         self.len()
     }
 
     fn key_at(&self, i: usize) -> &[u8] {
-        if i >= self.raw.rows.len() {
-            return b"";
+        match self.rows.get(i) {
+            Some(slot) => slot.key.as_bytes(),
+            None => b"",
         }
-        self.raw.rows.at(i).key.as_bytes()
     }
 
     fn value_at(&self, i: usize) -> &[u8] {
-        if i >= self.raw.rows.len() {
+        let Some(slot) = self.rows.get(i) else {
             return b"";
-        }
-        let slot = self.raw.rows.at(i);
-        &self.raw.bytes[slot.place..slot.place + slot.size]
+        };
+        let Span { place, size } = slot.span;
+        &self.bytes[place..place + size]
     }
 }

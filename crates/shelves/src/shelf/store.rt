@@ -8,12 +8,13 @@ use keys::StoreFault;
 use runs::{PairRun, get, next_child, next_key};
 use stores::{ListStore, ReadStore, WriteStore};
 
+// Kept: these traits lie in another crate than the shelf, so one impl for every run of pairs is not allowed.
 impl ReadStore for Shelf<'_> {
-    ghost pairs = { λ s. pairs_in s.raw };
+    ghost pairs = { λ s. pairs_in s };
 
     ghost longest = { λ _. 400 };
 
-    ghost lawful = { λ s. entries_lawful s.raw.rows.slots.now s.raw.rows.len s.raw.bytes.now s.ascends };
+    ghost lawful = { λ s. entries_lawful s.rows.slots.now s.rows.len s.bytes.now s.rows.ascends };
 
     fn longest_key(&self) -> usize {
         400
@@ -46,19 +47,19 @@ impl ListStore for Shelf<'_> {
 
 // A pair is taken exactly if the pairs then fit the slots and the bytes; every key is let go.
 impl WriteStore for Shelf<'_> {
-    ghost takes = { λ s. (meaning s.raw).takes };
+    ghost takes = { λ s. (meaning s).takes };
 
-    ghost lets = { λ s. (meaning s.raw).lets };
+    ghost lets = { λ s. (meaning s).lets };
 
-    ghost ties = { λ s t. Lent s.raw t.raw };
+    ghost ties = { λ s t. Lent s t };
 
     ghost still = { λ s. (refl, refl, refl, refl) };
 
     fn set(&mut self, key: &[u8], value: &[u8]) -> Result<(), StoreFault> {
-        self.raw.set(key, value)
+        self.put(key, value)
     }
 
     fn erase(&mut self, key: &[u8]) -> Result<(), StoreFault> {
-        self.raw.erase(key)
+        self.remove(key)
     }
 }

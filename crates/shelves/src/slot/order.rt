@@ -1,37 +1,77 @@
 // Slots in the order of their keys.
-ghost use Rattle.std.specs.Prelude.{◌≡◌};
-ghost use Rattle.shelves.specs.Slots.{slot_before};
-ghost use Rattle.keys.specs.Values.{key_text};
-ghost use Rattle.text.proofs.Order.{before_trans, before-alone};
+ghost use Rattle.std.specs.Prelude.{◌≡◌, Some, refl};
+ghost use Rattle.std.specs.Cmp.{on_equiv, on_total, partial_equiv_from_equiv, partial_order_from_agreeing_total};
+ghost use Rattle.text.specs.Bytes.{same};
+ghost use Rattle.text.proofs.TotalOrders.{byte_order_total, same_equivalence, same_ties};
+ghost use Rattle.shelves.specs.Slots.{slot, slot_text, slot_order};
+ghost use Rattle.shelves.specs.Ranks.{same_key};
 
-use super::Slot;
+use super::{Slot, Span};
 use keys::{MetadataFile, meta_key};
 use paths::NodePath;
 use std::cmp::Ordering;
-use table::Ordered;
+use table::Record;
 use text::compare;
 
 impl Slot {
     // A slot to fill an array of slots with: what it holds is no matter.
     pub fn empty() -> Slot
-        ensures { (result.place ≡ 0) × (result.size ≡ 0) }
+        ensures { (result.span.place ≡ 0) × (result.span.size ≡ 0) }
     {
         Slot {
             key: meta_key(&NodePath::root(), MetadataFile::ZarrJson),
-            place: 0,
-            size: 0,
+            span: Span { place: 0, size: 0 },
         }
     }
 }
 
-impl Ordered for Slot {
-    ghost before = { λ a b. slot_before a b };
+impl PartialEq for Slot {
+    ghost eq = { λ a b. same (slot_text a) (slot_text b) };
 
-    ghost chain = { λ x y z h k. before_trans (key_text x.key) (key_text y.key) (key_text z.key) h k };
+    ghost laws = { partial_equiv_from_equiv (on_equiv slot_text same_equivalence) };
 
-    ghost alone = { λ x. before-alone (key_text x.key) };
+    fn eq(&self, other: &Slot) -> bool {
+        self.cmp(other).is_eq()
+    }
+}
 
-    fn compare(&self, other: &Slot) -> Ordering {
+impl Eq for Slot {
+    ghost laws = { on_equiv slot_text same_equivalence };
+}
+
+impl PartialOrd for Slot {
+    ghost partial_cmp = { λ a b. Some (slot_order a b) };
+
+    ghost laws = { partial_order_from_agreeing_total slot_order (on_total slot_text byte_order_total) (λ _ _. refl) (λ a b. same_ties (slot_text a) (slot_text b)) };
+
+    fn partial_cmp(&self, other: &Slot) -> Option<Ordering> {
+        Some(self.cmp(other))
+    }
+}
+
+impl Ord for Slot {
+    ghost cmp = { slot_order };
+
+    ghost total = { on_total slot_text byte_order_total };
+
+    ghost matches_partial_cmp = { λ _ _. refl };
+
+    ghost matches_eq = { λ a b. same_ties (slot_text a) (slot_text b) };
+
+    fn cmp(&self, other: &Slot) -> Ordering {
         compare(self.key.as_bytes(), other.key.as_bytes())
     }
+}
+
+// Where the value of a slot lies does not change where the slot stands.
+impl Record for Slot {
+    type Rest = Span;
+
+    ghost with_rest = { λ s span. slot s.key span.place span.size };
+
+    fn with(self, span: Span) -> Slot {
+        Slot { span, ..self }
+    }
+
+    ghost alike = { λ s span. same_key s span.place span.size };
 }

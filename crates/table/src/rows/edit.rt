@@ -1,49 +1,86 @@
-// Records put into the table and taken out of it.
-ghost use Rattle.std.specs.Prelude.{◌≡◌, ◌+◌, ◌<◌, ◌≤◌, length, take, MatchResult, slice_index_or, slice_set};
+// Records put into the table, replaced and taken out of it.
+ghost use Rattle.std.specs.Prelude.{◌≡◌, ◌+◌, ◌-◌, ◌<◌, ◌≤◌, length, take, MatchResult, MatchOption, slice_index_or, slice_set, true};
+ghost use Rattle.std.specs.Bool.{MatchBool, Decides};
 ghost use Rattle.std.specs.List.{insert, remove};
-ghost use Rattle.table.specs.Order.{Ascending, Parts, Found};
+ghost use Rattle.table.specs.Order.{before, Parts, Found};
 
-use super::{Refusal, Table};
-use crate::order::Ordered;
+use super::{Record, Refusal, Table};
 use crate::shift::{close, open};
 
-impl<T: Ordered + Copy> Table<'_, T> {
+impl<T: Ord + Copy> Table<'_, T> {
     // Puts a record in at its place. Where it is refused, nothing is changed.
     pub fn insert(&mut self, x: T) -> Result<usize, Refusal>
-        requires within { self.old.len ≤ length self.old.slots.now }
-        requires ascends { Ascending T.before self.old.slots.now self.old.len }
-        ensures within { self.new.len ≤ length self.new.slots.now }
-        ensures ascends { Ascending T.before self.new.slots.now self.new.len }
         ensures room { length self.new.slots.now ≡ length self.old.slots.now }
         ensures same { self.new.slots.ghost_name ≡ self.old.slots.ghost_name }
         ensures rows { MatchResult result
-            (λ i. Parts T.before self.old.slots.now self.old.len x i
+            (λ i. Parts (before T.cmp) self.old.slots.now self.old.len x i
             × (self.new.len ≡ self.old.len + 1)
             × (take self.new.len self.new.slots.now ≡ insert (take self.old.len self.old.slots.now) i x))
             (λ e. (self.new.len ≡ self.old.len)
             × (self.new.slots.now ≡ self.old.slots.now)
-            × elim e [ Refusal.Full ↦ self.old.len ≡ length self.old.slots.now | Refusal.Known i ↦ Found T.before self.old.slots.now self.old.len x i ]) }
+            × elim e [ Refusal.Full ↦ self.old.len ≡ length self.old.slots.now | Refusal.Known i ↦ Found (before T.cmp) self.old.slots.now self.old.len x i ]) }
     {
-        let len = self.len;
         match self.find(&x) {
             Ok(i) => Err(Refusal::Known(i)),
             Err(i) => {
-                if len >= self.slots.len() {
+                if self.len >= self.slots.len() {
                     return Err(Refusal::Full);
                 }
-                self.insert_at(i, x);
+                self.put(i, x);
                 Ok(i)
             }
         }
     }
 
+    // Puts a record in at an index, if there is a slot and the index parts those before it from those after it.
+    // Where it is refused, nothing is changed.
+    pub fn insert_at(&mut self, i: usize, x: T) -> bool
+        ensures room { length self.new.slots.now ≡ length self.old.slots.now }
+        ensures same { self.new.slots.ghost_name ≡ self.old.slots.ghost_name }
+        ensures granted { Decides result ((self.old.len < length self.old.slots.now) × Parts (before T.cmp) self.old.slots.now self.old.len x i) }
+        ensures rows { MatchBool result
+            ((self.new.len ≡ self.old.len + 1)
+            × (take self.new.len self.new.slots.now ≡ insert (take self.old.len self.old.slots.now) i x))
+            ((self.new.len ≡ self.old.len) × (self.new.slots.now ≡ self.old.slots.now)) }
+    {
+        if self.len >= self.slots.len() || !self.parts(i, &x) {
+            return false;
+        }
+        self.put(i, x);
+        true
+    }
+
+    // Whether an index parts the records before `x` from those after it.
+    fn parts(&self, i: usize, x: &T) -> bool
+        ensures { Decides result (Parts (before T.cmp) self.now.slots.now self.now.len x.now i) }
+    {
+        if i > self.len {
+            return false;
+        }
+        self.follows(i, x) && self.precedes(x, i)
+    }
+
+    // Whether `x` comes after the record before an index, if there is one.
+    fn follows(&self, i: usize, x: &T) -> bool
+        requires { i ≤ self.now.len }
+        ensures { Decides result ((d : T) → 0 < i → before T.cmp (slice_index_or self.now.slots.now (i - 1) d) x.now ≡ true) }
+    {
+        i == 0 || self.records()[i - 1] < *x
+    }
+
+    // Whether `x` comes before the record at an index, if there is one.
+    fn precedes(&self, x: &T, i: usize) -> bool
+        requires { i ≤ self.now.len }
+        ensures { Decides result ((d : T) → i < self.now.len → before T.cmp x.now (slice_index_or self.now.slots.now i d) ≡ true) }
+    {
+        i == self.len || *x < self.records()[i]
+    }
+
     // Puts a record in at an index that parts those before it from those after it.
-    pub fn insert_at(&mut self, i: usize, x: T)
+    #[tactic(auto, using(crate::proofs::Slides::take_opened))]
+    fn put(&mut self, i: usize, x: T)
         requires within { self.old.len < length self.old.slots.now }
-        requires ascends { Ascending T.before self.old.slots.now self.old.len }
-        requires place { Parts T.before self.old.slots.now self.old.len x i }
-        ensures within { self.new.len ≤ length self.new.slots.now }
-        ensures ascends { Ascending T.before self.new.slots.now self.new.len }
+        requires place { Parts (before T.cmp) self.old.slots.now self.old.len x i }
         ensures room { length self.new.slots.now ≡ length self.old.slots.now }
         ensures same { self.new.slots.ghost_name ≡ self.old.slots.ghost_name }
         ensures rows { (self.new.len ≡ self.old.len + 1) × (take self.new.len self.new.slots.now ≡ insert (take self.old.len self.old.slots.now) i x) }
@@ -53,32 +90,59 @@ impl<T: Ordered + Copy> Table<'_, T> {
         self.len = len + 1;
     }
 
-    // Puts a record in the place of one that has the same order to every record.
-    pub fn replace(&mut self, i: usize, x: T)
-        requires within { self.old.len ≤ length self.old.slots.now }
-        requires place { i < self.old.len }
-        requires ascends { Ascending T.before self.old.slots.now self.old.len }
-        requires alike { (y d : T) → (T.before x y ≡ T.before (slice_index_or self.old.slots.now i d) y) × (T.before y x ≡ T.before y (slice_index_or self.old.slots.now i d)) }
-        ensures ascends { Ascending T.before self.new.slots.now self.new.len }
+    // Puts a record in the place of one that is the same in the order. Where there is none, nothing is changed.
+    pub fn replace(&mut self, i: usize, x: T) -> bool
         ensures same { self.new.slots.ghost_name ≡ self.old.slots.ghost_name }
-        ensures rows { (self.new.len ≡ self.old.len) × (self.new.slots.now ≡ slice_set self.old.slots.now i x) }
+        ensures granted { Decides result (Found (before T.cmp) self.old.slots.now self.old.len x i) }
+        ensures rows { (self.new.len ≡ self.old.len) × MatchBool result (self.new.slots.now ≡ slice_set self.old.slots.now i x) (self.new.slots.now ≡ self.old.slots.now) }
     {
+        if !self.has(i, &x) {
+            return false;
+        }
         self.slots[i] = x;
+        true
     }
 
-    // Takes out the record at an index.
-    pub fn remove(&mut self, i: usize)
-        requires within { self.old.len ≤ length self.old.slots.now }
-        requires place { i < self.old.len }
-        requires ascends { Ascending T.before self.old.slots.now self.old.len }
-        ensures within { self.new.len ≤ length self.new.slots.now }
-        ensures ascends { Ascending T.before self.new.slots.now self.new.len }
+    // Whether a record that is the same in the order stands at an index.
+    fn has(&self, i: usize, x: &T) -> bool
+        ensures { Decides result (Found (before T.cmp) self.now.slots.now self.now.len x.now i) }
+    {
+        i < self.len && self.records()[i].cmp(x).is_eq()
+    }
+
+    // Takes out the record at an index, if there are so many.
+    #[tactic(auto, using(crate::proofs::Slides::take_closed))]
+    pub fn remove(&mut self, i: usize) -> Option<T>
         ensures room { length self.new.slots.now ≡ length self.old.slots.now }
         ensures same { self.new.slots.ghost_name ≡ self.old.slots.ghost_name }
-        ensures rows { (self.new.len + 1 ≡ self.old.len) × (take self.new.len self.new.slots.now ≡ remove (take self.old.len self.old.slots.now) i) }
+        ensures rows { MatchOption result
+            ((self.old.len ≤ i) × (self.new.len ≡ self.old.len) × (self.new.slots.now ≡ self.old.slots.now))
+            (λ x. (i < self.old.len)
+            × ((d : T) → x ≡ slice_index_or self.old.slots.now i d)
+            × (self.new.len + 1 ≡ self.old.len)
+            × (take self.new.len self.new.slots.now ≡ remove (take self.old.len self.old.slots.now) i)) }
     {
+        let x = *self.get(i)?;
         let len = self.len;
         close(self.slots, i, len);
         self.len = len - 1;
+        Some(x)
+    }
+}
+
+impl<T: Record> Table<'_, T> {
+    // Gives the record at an index another rest, if there are so many; it stays where it stands.
+    pub fn set_rest(&mut self, i: usize, rest: T::Rest) -> bool
+        ensures same { self.new.slots.ghost_name ≡ self.old.slots.ghost_name }
+        ensures rows { (self.new.len ≡ self.old.len) × MatchBool result
+            ((i < self.old.len) × ((d : T) → self.new.slots.now ≡ slice_set self.old.slots.now i (T.with_rest (slice_index_or self.old.slots.now i d) rest)))
+            ((self.old.len ≤ i) × (self.new.slots.now ≡ self.old.slots.now)) }
+    {
+        if i >= self.len {
+            return false;
+        }
+        let record = self.slots[i];
+        self.slots[i] = record.with(rest);
+        true
     }
 }

@@ -1,21 +1,18 @@
 use Rattle.std.proofs.Common.{[], sym, ap, ◌∙◌, arith}
 use Rattle.std.proofs.lemmas.List.{get_or_past}
 use Rattle.stores.specs.Pairs.{Pair, pair}
-use Rattle.shelves.specs.Slots.{pairs_of}
-use Rattle.shelves.proofs.Whole.{sound_of}
+use Rattle.shelves.specs.Meant.{pairs_in}
 use Rattle.shelves.proofs.Changed.{many, pair_at_lem}
 use Rattle.shelves.proofs.shelf.run.ShelfPairRun.key_at.Goals as goal
 
-pub returns-then-i-len : goal.returns-then-i-len
-returns-then-i-len c =
+pub returns-in-None : goal.returns-in-None
+returns-in-None c =
     let s = c.args.self.now in
-    let t = s.raw.rows in
-    let ps = pairs_of t.slots.now t.len s.raw.bytes.now in
-    let l = many t.slots.now t.len s.raw.bytes.now s.raw.used (sound_of s) in
-    ap (λ (a : Pair). a.key) (sym (get_or_past ps c.args.i (pair [] []) (omega (arith, l, c.len.ensures))))
+    let l = many s in
+    ap (λ (a : Pair). a.key) (sym (get_or_past (pairs_in s) c.args.i (pair [] []) (omega (arith, l, c.in-None.ensures))))
 
-pub returns : goal.returns
-returns c =
+pub returns-in-Some : goal.returns-in-Some
+returns-in-Some c =
     let s = c.args.self.now in
-    let t = s.raw.rows in
-    c.as_bytes.ensures ∙ ap (λ (a : Pair). a.key) (sym (pair_at_lem t.slots.now t.len s.raw.bytes.now s.raw.used (sound_of s) c.args.i c.at.result.now (pair [] []) (omega (arith, c.len.ensures)) c.at.ensures))
+    let e = c.in-Some.ensures in
+    c.as_bytes.ensures ∙ ap (λ (a : Pair). a.key) (sym (pair_at_lem s c.args.i c.in-Some.slot.now (pair [] []) e.0 e.1))
