@@ -1,7 +1,6 @@
 -- Rows one by one, and one of them changed.
 -- Assumes nothing.
-use Rattle.std.proofs.Common.{◌≡◌, ℕ, zero, suc, ◌+◌, ◌<◌, ◌≤◌, Bool, true, false, cond, ltb, List, [], ◌∷◌, length, get_or, drop, set, Ok, Err, sym, refl, ap, ◌∙◌, arith}
-use Rattle.std.proofs.lemmas.List.{drop_more, drop_all}
+use Rattle.std.proofs.Common.{◌≡◌, ℕ, zero, suc, ◌<◌, Bool, true, false, cond, ltb, List, [], ◌∷◌, length, get_or, set, Ok, Err, Result, sym, refl, ap, ◌∙◌, arith}
 use Rattle.text.specs.Bytes.{Bytes}
 use Rattle.keys.specs.declared.fault.StoreFault.{StoreFault}
 use Rattle.keys.specs.declared.fault.StoreFault.TheVariants.{Malformed, Row as NoRow}
@@ -9,16 +8,7 @@ use Rattle.keys.specs.declared.store_key.StorePrefix.{StorePrefix}
 use Rattle.keys.specs.Keys.{is_prefix, prefix_or_fault}
 use Rattle.keys.specs.Values.{prefix_text, prefix_in}
 use Rattle.fences.specs.declared.table.Row.{Row}
-use Rattle.fences.specs.Rows.{Stake, stake, stake_of, stakes, covers, fenced, raised, lowered, answered, rows_after}
-
-pub fenced_found : (rows : List Row) (i : ℕ) (d : Row) (k : Bytes) → i < length rows → covers (stake_of (get_or rows i d)) k ≡ true → fenced (drop i rows) k ≡ true
-fenced_found rows i d k h e = let a = drop_more rows i d h in rw (a, e)
-
-pub fenced_more : (rows : List Row) (i : ℕ) (d : Row) (k : Bytes) → i < length rows → covers (stake_of (get_or rows i d)) k ≡ false → fenced (drop i rows) k ≡ fenced (drop (i + 1) rows) k
-fenced_more rows i d k h e = let a = drop_more rows i d h in rw (a, e)
-
-pub fenced_all : (rows : List Row) (i : ℕ) (k : Bytes) → length rows ≤ i → fenced (drop i rows) k ≡ false
-fenced_all rows i k h = let a : drop i rows ≡ [] = drop_all i rows h in simp a
+use Rattle.fences.specs.Rows.{Stake, stake, stake_of, stakes, raised, lowered, answered, rows_after}
 
 pub stakes-set : (rows : List Row) (i : ℕ) (r : Row) → stakes (set rows i r) ≡ set (stakes rows) i (stake_of r)
 stakes-set [] i r = refl
@@ -34,22 +24,20 @@ stakes_at (x ∷ rows) (suc i) d s h = stakes_at rows i d s (omega arith)
 
 both_of : (t : Bool) (p : Bytes) (k : StorePrefix) → Ok (prefix_text k) ≡ cond t (Ok p) (Err Malformed) → (t ≡ true) × (prefix_text k ≡ p)
 both_of true p k e = (refl, cc)
-both_of false p k e = let z : ◌≡◌ {A = ℕ} 0 1 = grind arith in absurd (omega arith)
+both_of false p k e = absurd (cc)
 
-none_of : (t : Bool) (p : Bytes) (f : StoreFault) → Err f ≡ cond t (Ok p) (Err Malformed) → t ≡ false
-none_of true p f e = let z : ◌≡◌ {A = ℕ} 0 1 = grind arith in absurd (omega arith)
-none_of false p f e = refl
+none_of : (t : Bool) (p : Bytes) (r : Result StorePrefix StoreFault) → ((k : StorePrefix) → r ≡ Ok k → ⊥) → prefix_in r ≡ cond t (Ok p) (Err Malformed) → t ≡ false
+none_of t p (Ok k) n e = absurd (n k refl)
+none_of true p (Err f) n e = absurd (cc)
+none_of false p (Err f) n e = refl
 
 pub raises : (rows : List Row) (i : ℕ) (p : Bytes) (k : StorePrefix) → ltb i 16 ≡ true → prefix_in (Ok k) ≡ prefix_or_fault p → (Ok tt ≡ answered (raised (stakes rows) i p)) × (stakes (set rows i (record { raised = true; prefix = k })) ≡ rows_after (raised (stakes rows) i p) (stakes rows))
 raises rows i p k l e =
     let w = both_of (is_prefix p) p k e in
     rw (l, w.0) (refl, stakes-set rows i (record { raised = true; prefix = k }) ∙ ap (λ (t : Bytes). set (stakes rows) i (stake true t)) w.1)
 
-pub raise_past : (rows : List Row) (i : ℕ) (p : Bytes) → ltb i 16 ≡ false → (Err NoRow ≡ answered (raised (stakes rows) i p)) × (stakes rows ≡ rows_after (raised (stakes rows) i p) (stakes rows))
-raise_past rows i p l = rw l (refl, refl)
-
-pub raise_malformed : (rows : List Row) (i : ℕ) (p : Bytes) (f : StoreFault) → ltb i 16 ≡ true → prefix_in (Err f) ≡ prefix_or_fault p → (Err NoRow ≡ answered (raised (stakes rows) i p)) × (stakes rows ≡ rows_after (raised (stakes rows) i p) (stakes rows))
-raise_malformed rows i p f l e = let w : is_prefix p ≡ false = none_of (is_prefix p) p f e in rw (l, w) (refl, refl)
+pub raise_malformed : (rows : List Row) (i : ℕ) (p : Bytes) (r : Result StorePrefix StoreFault) → ltb i 16 ≡ true → ((k : StorePrefix) → r ≡ Ok k → ⊥) → prefix_in r ≡ prefix_or_fault p → (Err NoRow ≡ answered (raised (stakes rows) i p)) × (stakes rows ≡ rows_after (raised (stakes rows) i p) (stakes rows))
+raise_malformed rows i p r l n e = let w : is_prefix p ≡ false = none_of (is_prefix p) p r n e in rw (l, w) (refl, refl)
 
 pub lowers : (rows : List Row) (i : ℕ) (d : Row) → ltb i 16 ≡ true → i < length rows → (Ok tt ≡ answered (lowered (stakes rows) i)) × (stakes (set rows i (record { raised = false; prefix = (get_or rows i d).prefix })) ≡ rows_after (lowered (stakes rows) i) (stakes rows))
 lowers rows i d l h =

@@ -1,6 +1,7 @@
 -- A call of a fence, by the call of the store below.
 -- Assumes nothing.
-use Rattle.std.proofs.Common.{◌≡◌, ℕ, Bool, true, false, cond, not, ◌&&◌, ◌||◌, leb, List, length, Some, None, Ok, Err, Option, Result, sym, refl, ap, ◌∙◌, subst, arith}
+use Rattle.std.proofs.Common.{◌≡◌, ℕ, Bool, true, false, cond, not, ◌&&◌, ◌||◌, leb, List, length, Some, None, Ok, Err, Option, Result, sym, refl, ap, ◌∙◌, subst}
+use Rattle.std.specs.Result.{IsErrAnd}
 use Rattle.text.specs.Bytes.{Bytes}
 use Rattle.keys.specs.declared.fault.StoreFault.{StoreFault}
 use Rattle.keys.specs.declared.fault.StoreFault.TheVariants.{Malformed, Longer, NotTaken, NotLetGo}
@@ -21,12 +22,12 @@ there true None n = refl
 there true (Some v) n = elim (leb (length v) n) as (λ b. presence (answer (cond b (Ok (Some v)) (Err Longer))) ≡ Ok true) [ true ↦ refl | false ↦ refl ]
 
 guarded_err : (w b : Bool) (f : StoreFault) → ◌≡◌ {A = Result Bool StoreFault} (guarded w (Ok b)) (Err f) → (w ≡ false) × (f ≡ Malformed)
-guarded_err true b f e = let z : ◌≡◌ {A = ℕ} 0 1 = grind arith in absurd (omega arith)
+guarded_err true b f e = absurd (cc)
 guarded_err false b f e = (refl, cc)
 
 guarded_ok : (w b d : Bool) → ◌≡◌ {A = Result Bool StoreFault} (guarded w (Ok b)) (Ok d) → (w ≡ true) × (b ≡ d)
 guarded_ok true b d e = (refl, cc)
-guarded_ok false b d e = let z : ◌≡◌ {A = ℕ} 0 1 = grind arith in absurd (omega arith)
+guarded_ok false b d e = absurd (cc)
 
 malformed : (m : Meaning) (k : Bytes) (n : ℕ) (f : StoreFault) → presence (answer (got m.longest m.pairs k n)) ≡ Err f → (well_key m.longest k ≡ false) × (f ≡ Malformed)
 malformed m k n f e = guarded_err (well_key m.longest k) (not (absent (lookup k m.pairs))) f (sym (there (well_key m.longest k) (lookup k m.pairs) n) ∙ e)
@@ -36,34 +37,35 @@ well m k n d e = guarded_ok (well_key m.longest k) (not (absent (lookup k m.pair
 
 -- ---- outcomes that leave all as it was
 
-wrote_malformed : (w : Bool) (o : Result Pairs StoreFault) (m : Meaning) (f : StoreFault) → w ≡ false → f ≡ Malformed → Wrote (guarded w o) m m (Err f)
-wrote_malformed true o m f e h = let z : ◌≡◌ {A = ℕ} 0 1 = grind arith in absurd (omega arith)
-wrote_malformed false o m f e h = record { answers = ap (λ (x : StoreFault). Err x) h; kept = refl }
+wrote_malformed : (w : Bool) (o : Result Pairs StoreFault) (m : Meaning) (f : StoreFault) (r : Result Unit StoreFault) → IsErrAnd r (λ d. d ≡ f) → w ≡ false → f ≡ Malformed → Wrote (guarded w o) m m r
+wrote_malformed true o m f r i e h = absurd (cc)
+wrote_malformed false o m f (Ok u) i e h = absurd i
+wrote_malformed false o m f (Err d) i e h = record { answers = ap (λ (x : StoreFault). Err x) (i ∙ h); kept = refl }
 
 wrote_refused : (w t : Bool) (e : StoreFault) (ps : Pairs) (m : Meaning) → w ≡ true → t ≡ false → Wrote (guarded w (decided t e ps)) m m (Err e)
-wrote_refused true true e ps m h g = let z : ◌≡◌ {A = ℕ} 0 1 = grind arith in absurd (omega arith)
+wrote_refused true true e ps m h g = absurd (cc)
 wrote_refused true false e ps m h g = record { answers = refl; kept = refl }
-wrote_refused false t e ps m h g = let z : ◌≡◌ {A = ℕ} 0 1 = grind arith in absurd (omega arith)
+wrote_refused false t e ps m h g = absurd (cc)
 
-pub set_malformed : (k v : Bytes) (m : Meaning) (n : ℕ) (f : StoreFault) → presence (answer (got m.longest m.pairs k n)) ≡ Err f → Set k v m m (Err f)
-set_malformed k v m n f e =
+pub set_malformed : (k v : Bytes) (m : Meaning) (n : ℕ) (f : StoreFault) (r : Result Unit StoreFault) → IsErrAnd r (λ d. d ≡ f) → presence (answer (got m.longest m.pairs k n)) ≡ Err f → Set k v m m r
+set_malformed k v m n f r i e =
     let w = malformed m k n f e in
-    wrote_malformed (well_key m.longest k) (decided (m.takes k (length v)) NotTaken (inserted k v m.pairs)) m f w.0 w.1
+    wrote_malformed (well_key m.longest k) (decided (m.takes k (length v)) NotTaken (inserted k v m.pairs)) m f r i w.0 w.1
 
 pub set_refused : (k v : Bytes) (m : Meaning) (n : ℕ) (d : Bool) → presence (answer (got m.longest m.pairs k n)) ≡ Ok d → m.takes k (length v) ≡ false → Set k v m m (Err NotTaken)
 set_refused k v m n d e t = wrote_refused (well_key m.longest k) (m.takes k (length v)) NotTaken (inserted k v m.pairs) m (well m k n d e).0 t
 
-pub erase_malformed : (k : Bytes) (m : Meaning) (n : ℕ) (f : StoreFault) → presence (answer (got m.longest m.pairs k n)) ≡ Err f → Erase k m m (Err f)
-erase_malformed k m n f e =
+pub erase_malformed : (k : Bytes) (m : Meaning) (n : ℕ) (f : StoreFault) (r : Result Unit StoreFault) → IsErrAnd r (λ d. d ≡ f) → presence (answer (got m.longest m.pairs k n)) ≡ Err f → Erase k m m r
+erase_malformed k m n f r i e =
     let w = malformed m k n f e in
-    wrote_malformed (well_key m.longest k) (decided (absent (lookup k m.pairs) || m.lets k) NotLetGo (removed k m.pairs)) m f w.0 w.1
+    wrote_malformed (well_key m.longest k) (decided (absent (lookup k m.pairs) || m.lets k) NotLetGo (removed k m.pairs)) m f r i w.0 w.1
 
 there_none : (o : Option Bytes) → not (absent o) ≡ false → o ≡ None
 there_none None e = refl
-there_none (Some v) e = let z : ◌≡◌ {A = ℕ} 0 1 = grind arith in absurd (omega arith)
+there_none (Some v) e = absurd (cc)
 
 kept_off : (o : Option Bytes) (l : Bool) → not (absent o) ≡ true → l ≡ false → (absent o || l) ≡ false
-kept_off None l e h = let z : ◌≡◌ {A = ℕ} 0 1 = grind arith in absurd (omega arith)
+kept_off None l e h = absurd (cc)
 kept_off (Some v) l e h = h
 
 pub erase_there : (k : Bytes) (m : Meaning) (n : ℕ) → presence (answer (got m.longest m.pairs k n)) ≡ Ok true → m.lets k ≡ false → Erase k m m (Err NotLetGo)
@@ -101,4 +103,4 @@ erase_open rows k m n r e s =
 
 pub takes_none : (b t : Bool) → true ≡ b → (not b && t) ≡ false
 takes_none true t e = refl
-takes_none false t e = let z : ◌≡◌ {A = ℕ} 0 1 = grind arith in absurd (omega arith)
+takes_none false t e = absurd (cc)

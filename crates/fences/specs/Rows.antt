@@ -1,6 +1,7 @@
 -- The rows of a fence: each has a prefix and is raised or lowered. A key is fenced if it begins with the prefix of a raised row.
 -- Assumes nothing.
-use Rattle.std.specs.Prelude.{ℕ, Bool, true, false, cond, ◌&&◌, ◌||◌, List, [], ◌∷◌, is_some, Ok, Err, Result, nat_lt, slice_index_or, slice_set}
+use Rattle.std.specs.Prelude.{ℕ, Bool, true, false, cond, ◌&&◌, List, [], ◌∷◌, is_some, Ok, Err, Result, nat_lt, slice_index_or, slice_set}
+use Rattle.std.specs.List.{list_any}
 use Rattle.text.specs.Bytes.{Bytes, stripped}
 use Rattle.keys.specs.declared.fault.StoreFault.{StoreFault}
 use Rattle.keys.specs.declared.fault.StoreFault.TheVariants.{Row as NoRow}
@@ -26,12 +27,8 @@ stakes (r ∷ rs) = stake_of r ∷ stakes rs
 abbrev pub covers : Stake → Bytes → Bool
 covers r k = r.raised && is_some (stripped r.prefix k)
 
-abbrev pub fenced_by : List Stake → Bytes → Bool
-fenced_by [] k = false
-fenced_by (r ∷ rs) k = covers r k || fenced_by rs k
-
 abbrev pub fenced : List Row → Bytes → Bool
-fenced rows k = fenced_by (stakes rows) k
+fenced rows k = list_any (λ r. covers (stake_of r) k) rows
 
 -- Raising a row gives it the prefix and raises it, and lowering one leaves its prefix; no other row is changed. A row past the last, 15, and a malformed prefix are refused.
 abbrev pub raised : List Stake → ℕ → Bytes → Result (List Stake) StoreFault

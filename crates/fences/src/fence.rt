@@ -1,5 +1,6 @@
 // A store whose raised rows refuse what is under their prefixes.
 ghost use Rattle.std.specs.Prelude.{◌≡◌, not, ◌&&◌, refl};
+ghost use Rattle.stores.specs.Answers.{got, answer};
 ghost use Rattle.fences.specs.Rows.{fenced};
 ghost use Rattle.fences.specs.Guard.{presence};
 
@@ -60,6 +61,18 @@ impl<'s, 't, S> Fence<'s, 't, S> {
     }
 }
 
+impl<S: ReadStore> Fence<'_, '_, S> {
+    // Whether a key has a value: one longer than the buffer is there.
+    fn present(&self, key: &[u8]) -> Result<bool, StoreFault>
+        ensures { result ≡ presence (answer (got (S.ReadStore.longest self.now.store.now) (S.ReadStore.pairs self.now.store.now) key.now 0)) }
+    {
+        match self.store.get(key, &mut []) {
+            Err(StoreFault::Longer) => Ok(true),
+            found => Ok(found?.is_some()),
+        }
+    }
+}
+
 // A key that a raised row covers is refused, unless it is malformed, or is to be erased and is not there.
 impl<S: WriteStore> WriteStore for Fence<'_, '_, S> {
     ghost takes = { λ f k n. not (fenced f.table.now.rows k) && S.WriteStore.takes f.store.now k n };
@@ -72,42 +85,20 @@ impl<S: WriteStore> WriteStore for Fence<'_, '_, S> {
 
     fn set(&mut self, key: &[u8], value: &[u8]) -> Result<(), StoreFault> {
         if self.table.stop(key) {
-            let mut none = [0u8; 0];
-            let seen = self.store.get(key, &mut none);
-            return match present(seen) {
-                Err(fault) => Err(fault),
-                Ok(_) => Err(StoreFault::NotTaken),
-            };
+            self.present(key)?;
+            return Err(StoreFault::NotTaken);
         }
         self.store.set(key, value)
     }
 
     fn erase(&mut self, key: &[u8]) -> Result<(), StoreFault> {
-        if self.table.stop(key) {
-            let mut none = [0u8; 0];
-            let seen = self.store.get(key, &mut none);
-            return match present(seen) {
-                Err(fault) => Err(fault),
-                Ok(there) => {
-                    if there {
-                        Err(StoreFault::NotLetGo)
-                    } else {
-                        Ok(())
-                    }
-                }
-            };
+        if !self.table.stop(key) {
+            return self.store.erase(key);
         }
-        self.store.erase(key)
-    }
-}
-
-// Whether there is a value, by what was answered to reading it: one longer than the buffer is there.
-fn present(seen: Result<Option<usize>, StoreFault>) -> Result<bool, StoreFault>
-    ensures { result ≡ presence seen }
-{
-    match seen {
-        Ok(found) => Ok(found.is_some()),
-        Err(StoreFault::Longer) => Ok(true),
-        Err(fault) => Err(fault),
+        if self.present(key)? {
+            Err(StoreFault::NotLetGo)
+        } else {
+            Ok(())
+        }
     }
 }

@@ -13,10 +13,7 @@ impl Row {
     fn stops(&self, key: &[u8]) -> bool
         ensures { result ≡ covers (stake_of self.now) key.now }
     {
-        if !self.raised {
-            return false;
-        }
-        begins_with(key, self.prefix.as_bytes())
+        self.raised && begins_with(key, self.prefix.as_bytes())
     }
 }
 
@@ -25,9 +22,8 @@ impl Rows {
     pub fn new() -> Rows
         ensures { (k : Bytes) → fenced result.rows k ≡ false }
     {
-        let raised = false;
         let row = Row {
-            raised,
+            raised: false,
             prefix: prefix_of(&NodePath::root()),
         };
         Rows { rows: [row; 16] }
@@ -38,19 +34,17 @@ impl Rows {
         ensures answers { result ≡ answered (raised (stakes self.old.rows) row prefix.now) }
         ensures changes { stakes self.new.rows ≡ rows_after (raised (stakes self.old.rows) row prefix.now) (stakes self.old.rows) }
     {
-        if row >= 16 {
+        if row >= self.rows.len() {
             return Err(StoreFault::Row);
         }
-        match StorePrefix::new(prefix) {
-            Ok(prefix) => {
-                self.rows[row] = Row {
-                    raised: true,
-                    prefix,
-                };
-                Ok(())
-            }
-            Err(_) => Err(StoreFault::Row),
-        }
+        let Ok(prefix) = StorePrefix::new(prefix) else {
+            return Err(StoreFault::Row);
+        };
+        self.rows[row] = Row {
+            raised: true,
+            prefix,
+        };
+        Ok(())
     }
 
     // Lowers a row.
@@ -58,14 +52,10 @@ impl Rows {
         ensures answers { result ≡ answered (lowered (stakes self.old.rows) row) }
         ensures changes { stakes self.new.rows ≡ rows_after (lowered (stakes self.old.rows) row) (stakes self.old.rows) }
     {
-        if row >= 16 {
+        if row >= self.rows.len() {
             return Err(StoreFault::Row);
         }
-        let prefix = self.rows[row].prefix;
-        self.rows[row] = Row {
-            raised: false,
-            prefix,
-        };
+        self.rows[row].raised = false;
         Ok(())
     }
 
@@ -73,11 +63,6 @@ impl Rows {
     pub fn stop(&self, key: &[u8]) -> bool
         ensures { result ≡ fenced self.now.rows key.now }
     {
-        for i in 0..16 {
-            if self.rows[i].stops(key) {
-                return true;
-            }
-        }
-        false
+        self.rows.iter().any(|row| row.stops(key))
     }
 }

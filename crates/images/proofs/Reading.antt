@@ -1,7 +1,7 @@
 -- What a record at a place tells, as the code reads it.
 -- Assumes nothing.
 use Rattle.std.proofs.Common.{◌≡◌, ℕ, ◌+◌, ◌-◌, ◌<◌, ◌≤◌, Bool, true, false, ◌&&◌, eqb, ltb, leb, length, take, drop, sym, refl, ap, ◌∙◌, arith}
-use Rattle.std.proofs.lemmas.Bool.{and_parts, and_from, and_left, and_right, eqb-true, leb-true, ltb-true, le-leb, lt-leb, lt-ltb, le-ltb, eq-eqb, ne_eqb}
+use Rattle.std.proofs.lemmas.Bool.{and_parts, and_from, and_left, and_right, eqb-true, leb-true, ltb-true, le-leb, lt-leb, lt-ltb, eq-eqb, ne_eqb}
 use Rattle.text.specs.Bytes.{Bytes, before}
 use Rattle.keys.specs.Keys.{is_key}
 use Rattle.images.specs.Layout.{byte_at, key_place, key_long, value_place, value_long, key_in}
@@ -12,11 +12,7 @@ part_is image a n b m p q = let e : a + n - a ≡ m = omega arith in ap (λ (x :
 
 -- ---- the end
 
-pub ends_past : (image : Bytes) (at : ℕ) → length image ≤ at → ends_at image at ≡ false
-unfolding ends_at
-ends_past image at h = and_left (ltb at (length image)) (eqb (byte_at image at) 0) (le-ltb at (length image) h)
-
-pub ends_here : (image : Bytes) (at : ℕ) → at < length image → ends_at image at ≡ eqb (byte_at image at) 0
+ends_here : (image : Bytes) (at : ℕ) → at < length image → ends_at image at ≡ eqb (byte_at image at) 0
 unfolding ends_at
 ends_here image at h = ap (λ (b : Bool). b && eqb (byte_at image at) 0) (lt-ltb at (length image) h)
 

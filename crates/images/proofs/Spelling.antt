@@ -1,14 +1,16 @@
 -- What bytes spell, and what the test grants.
 -- Assumes nothing.
-use Rattle.std.proofs.Common.{◌≡◌, ℕ, zero, suc, ◌+◌, ◌*◌, ◌<◌, ◌≤◌, Bool, true, false, leb, [], ◌∷◌, length, sym, refl, ap, ◌∙◌, subst, arith}
-use Rattle.std.proofs.lemmas.Bool.{and_parts, and_from, both_ways, leb-true, le-leb, eqb-true}
+use Rattle.std.proofs.Common.{◌≡◌, ℕ, zero, suc, ◌+◌, ◌*◌, ◌<◌, ◌≤◌, true, false, leb, [], ◌∷◌, length, Some, None, Option, sym, refl, ap, ◌∙◌, subst, arith}
+use Rattle.std.proofs.lemmas.Bool.{and_parts, and_from, both_ways, leb-true, le-leb}
+use Rattle.std.specs.Option.{unwrap_or, ok_or}
+use Rattle.keys.specs.declared.fault.StoreFault.TheVariants.{Image as NoImage}
 use Rattle.text.specs.Bytes.{Bytes, before}
 use Rattle.keys.specs.Keys.{is_key}
 use Rattle.stores.specs.Pairs.{Pairs, pair, AllAbove, Ascends, AllKeys}
 use Rattle.runs.specs.Places.{key_at, value_at}
 use Rattle.images.specs.Layout.{key_in, value_in}
-use Rattle.images.specs.Spells.{Records, end, more, Spells, listed, Meant}
-use Rattle.images.specs.Tests.{pair_at, Placed, good_at, sound_from, sound, upheld}
+use Rattle.images.specs.Spells.{Records, end, more, Spells, listed, Checked, Meant}
+use Rattle.images.specs.Tests.{pair_at, Placed, good_at, sound_from, sound, upheld, Counted}
 use Rattle.images.specs.Lawful.{good_parts, sound_rises}
 use Rattle.images.specs.Laws.{OneSpelling, TestIsSpelling}
 use Rattle.images.proofs.Counting.{sound-placed}
@@ -55,7 +57,7 @@ sound_of {image} {at} last (more {ps = qs} h e kp vp r) k a b =
 
 -- a key comes after the empty text
 not_empty : (k : Bytes) → is_key k ≡ true → before [] k ≡ true
-not_empty [] h = let z : ◌≡◌ {A = ℕ} 0 1 = grind arith in absurd (omega arith)
+not_empty [] h = absurd (cc)
 not_empty (x ∷ k) h = refl
 
 above_none : (ps : Pairs) → AllKeys (λ k. is_key k ≡ true) ps → AllAbove [] ps
@@ -104,33 +106,38 @@ listed_past image at (suc n) (suc i) h = listed_past image (at + 15) n i (omega 
 
 -- ---- what an image keeps
 
-pub upheld-sound : (granted : Bool) (image : Bytes) (n i : ℕ) → upheld granted image n ≡ true → i < n → sound image n ≡ true
+pub upheld_counted : (image : Bytes) (count : Option ℕ) → Counted image count → upheld image count ≡ true
 unfolding upheld
-upheld-sound true image n i h l = h
-upheld-sound false image n i h l = let e : n ≡ 0 = eqb-true n 0 h in absurd (omega arith)
+upheld_counted image None c = refl
+upheld_counted image (Some n) c = c
 
-pub sound_from_lem : (image : Bytes) (n : ℕ) → sound image n ≡ true → sound_from [] image 0 n ≡ true
+pub none_counted : (image : Bytes) (count : Option ℕ) → Counted image count → (n : ℕ) → count ≡ None → sound image n ≡ false
+none_counted image None c n e = c n
+none_counted image (Some m) c n e = absurd (cc)
+
+pub meant_counted : (image : Bytes) (count : Option ℕ) → Counted image count → Meant image (listed image 0 (unwrap_or count 0))
+meant_counted image None c = meant_none image c
+meant_counted image (Some n) c = meant-spelled image n c
+
+pub checked : (image : Bytes) (count : Option ℕ) → upheld image count ≡ true → ((n : ℕ) → count ≡ None → sound image n ≡ false) → Checked image (ok_or count NoImage)
+unfolding upheld
+checked image None h r = (refl, not_spelled image (λ n. r n refl))
+checked image (Some n) h r = spelled image n h
+
+upheld-sound : (image : Bytes) (count : Option ℕ) (i : ℕ) → upheld image count ≡ true → i < unwrap_or count 0 → sound image (unwrap_or count 0) ≡ true
+unfolding upheld
+upheld-sound image None i h l = absurd (omega arith)
+upheld-sound image (Some n) i h l = h
+
+sound_from_lem : (image : Bytes) (n : ℕ) → sound image n ≡ true → sound_from [] image 0 n ≡ true
 unfolding sound
 sound_from_lem image n h = (and_parts (leb (length image) 4194304) (sound_from [] image 0 n) h).1
 
-pub upheld-granted : (granted : Bool) (image : Bytes) (n : ℕ) → granted ≡ true → upheld granted image n ≡ true → sound image n ≡ true
-unfolding upheld
-upheld-granted true image n e h = h
-upheld-granted false image n e h = let z : ◌≡◌ {A = ℕ} 0 1 = grind arith in absurd (omega arith)
-
-pub upheld_true : (image : Bytes) (n : ℕ) → sound image n ≡ true → upheld true image n ≡ true
-unfolding upheld
-upheld_true image n h = h
-
-pub upheld_none : (image : Bytes) → upheld false image 0 ≡ true
-unfolding upheld
-upheld_none image = refl
-
 -- the record of a pair of an image lies in it
-pub pair-placed : (granted : Bool) (image : Bytes) (n i : ℕ) → upheld granted image n ≡ true → i < n → Placed image (15 * i)
-pair-placed granted image n i h l =
+pub pair-placed : (image : Bytes) (count : Option ℕ) (i : ℕ) → upheld image count ≡ true → i < unwrap_or count 0 → Placed image (15 * i)
+pair-placed image count i h l =
     let e : 0 + 15 * i ≡ 15 * i = omega arith in
-    subst (λ (x : ℕ). Placed image x) e (sound-placed [] image 0 n i (sound_from_lem image n (upheld-sound granted image n i h l)) l)
+    subst (λ (x : ℕ). Placed image x) e (sound-placed [] image 0 (unwrap_or count 0) i (sound_from_lem image (unwrap_or count 0) (upheld-sound image count i h l)) l)
 
 pub pair_there : (image : Bytes) (n i : ℕ) → i < n → (key_in image (15 * i) ≡ key_at (listed image 0 n) i) × (value_in image (15 * i) ≡ value_at (listed image 0 n) i)
 pair_there image n i l =
@@ -142,8 +149,8 @@ sound_short : (image : Bytes) (n : ℕ) → sound image n ≡ true → length im
 unfolding sound
 sound_short image n h = leb-true (length image) 4194304 (and_parts (leb (length image) 4194304) (sound_from [] image 0 n) h).0
 
-pub place_fits : (granted : Bool) (image : Bytes) (n i : ℕ) → upheld granted image n ≡ true → i < n → 15 * i < 4194304
-place_fits granted image n i h l =
-    let w : 15 * i + 15 ≤ length image = (pair-placed granted image n i h l).room in
-    let s : length image ≤ 4194304 = sound_short image n (upheld-sound granted image n i h l) in
+pub place_fits : (image : Bytes) (count : Option ℕ) (i : ℕ) → upheld image count ≡ true → i < unwrap_or count 0 → 15 * i < 4194304
+place_fits image count i h l =
+    let w : 15 * i + 15 ≤ length image = (pair-placed image count i h l).room in
+    let s : length image ≤ 4194304 = sound_short image (unwrap_or count 0) (upheld-sound image count i h l) in
     omega arith

@@ -1,8 +1,8 @@
 -- Bytes that pass the test spell lawful pairs.
 -- Assumes nothing.
-use Rattle.std.specs.Prelude.{◌≡◌, ℕ, zero, suc, ◌+◌, Bool, true, false, ◌&&◌, [], length, nat_le}
-use Rattle.std.proofs.Common.{arith, lit≤}
-use Rattle.std.proofs.lemmas.Bool.{and_parts, eqb-true}
+use Rattle.std.specs.Prelude.{◌≡◌, ℕ, zero, suc, ◌+◌, true, ◌&&◌, [], length, Some, None, Option, unwrap_or, nat_le}
+use Rattle.std.proofs.Common.{lit≤}
+use Rattle.std.proofs.lemmas.Bool.{and_parts}
 use Rattle.text.specs.Bytes.{Bytes, before}
 use Rattle.keys.specs.Keys.{is_key}
 use Rattle.stores.specs.Pairs.{Pairs, AllAbove, Ascends, AllKeys, Lawful}
@@ -45,11 +45,7 @@ sound_lawful image n h =
     let r = sound_rises [] image 0 n a.1 in
     record { ascends = r.ascends; short = lit≤ tt; keys = r.keys }
 
-no_pairs : (image : Bytes) (n : ℕ) → n ≡ 0 → Lawful (listed image 0 n) 400
-no_pairs image zero e = none_lawful
-no_pairs image (suc n) e = absurd (omega arith)
-
-pub image_lawful : (granted : Bool) (image : Bytes) (n : ℕ) → upheld granted image n ≡ true → Lawful (listed image 0 n) 400
+pub image_lawful : (image : Bytes) (count : Option ℕ) → upheld image count ≡ true → Lawful (listed image 0 (unwrap_or count 0)) 400
 unfolding upheld
-image_lawful true image n h = sound_lawful image n h
-image_lawful false image n h = no_pairs image n (eqb-true n 0 h)
+image_lawful image None h = none_lawful
+image_lawful image (Some n) h = sound_lawful image n h

@@ -38,7 +38,7 @@ abbrev pub Counted : Bytes → Option ℕ → Type 0
 Counted image None = (n : ℕ) → sound image n ≡ false
 Counted image (Some n) = sound image n ≡ true
 
--- what an image keeps: that it stands with so many pairs, or, where its bytes are refused, has none
-unfoldable pub upheld : Bool → Bytes → ℕ → Bool
-upheld true image n = sound image n
-upheld false image n = n == 0
+-- what an image keeps: that its bytes spell so many pairs, where they are not refused
+unfoldable pub upheld : Bytes → Option ℕ → Bool
+upheld image None = true
+upheld image (Some n) = sound image n

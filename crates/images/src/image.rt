@@ -1,5 +1,5 @@
 // An image: bytes held for reading, and how many pairs they spell.
-ghost use Rattle.std.specs.Prelude.{◌≡◌, ℕ, true, false};
+ghost use Rattle.std.specs.Prelude.{◌≡◌, ℕ, true, false, None, unwrap_or};
 ghost use Rattle.images.specs.Spells.{listed, Checked, Meant};
 ghost use Rattle.images.specs.Tests.{sound, upheld};
 
@@ -10,52 +10,32 @@ use keys::StoreFault;
 pub fn check(bytes: &[u8]) -> Result<usize, StoreFault>
     ensures { Checked bytes.now result }
 {
-    match tally(bytes) {
-        Some(n) => Ok(n),
-        None => Err(StoreFault::Image),
-    }
+    Image::new(bytes).check()
 }
 
-// The bytes, whether they are an image, and how many pairs they have; bytes that are no image have none.
+// The bytes, and how many pairs they spell; none where they are no image.
 #[derive(Drop)]
 pub struct Image<'a> {
     pub(crate) bytes: &'a [u8],
-    pub(crate) granted: bool,
-    pub(crate) count: usize,
-    ghost stands: { upheld granted bytes.now count ≡ true },
-    ghost refused: { (n : ℕ) → granted ≡ false → sound bytes.now n ≡ false },
+    pub(crate) count: Option<usize>,
+    ghost stands: { upheld bytes.now count ≡ true },
+    ghost refused: { (n : ℕ) → count ≡ None → sound bytes.now n ≡ false },
 }
 
 impl<'a> Image<'a> {
     // The pairs that the bytes spell, counted in one pass.
     pub fn new(bytes: &'a [u8]) -> Image<'a>
         ensures holds { result.bytes.now ≡ bytes.now }
-        ensures means { Meant bytes.now (listed result.bytes.now 0 result.count) }
+        ensures means { Meant bytes.now (listed result.bytes.now 0 (unwrap_or result.count 0)) }
     {
-        let count = match tally(bytes) {
-            Some(n) => n,
-            None => {
-                return Image {
-                    bytes,
-                    granted: false,
-                    count: 0,
-                };
-            }
-        };
-        Image {
-            bytes,
-            granted: true,
-            count,
-        }
+        let count = tally(bytes);
+        Image { bytes, count }
     }
 
     // How many pairs the bytes spell, or the refusal of bytes that are no image.
     pub fn check(&self) -> Result<usize, StoreFault>
         ensures { Checked self.now.bytes.now result }
     {
-        if self.granted {
-            return Ok(self.count);
-        }
-        Err(StoreFault::Image)
+        self.count.ok_or(StoreFault::Image)
     }
 }

@@ -3,22 +3,16 @@ ghost use Rattle.images.specs.Examples.{ExamplesHold};
 ghost use Rattle.images.specs.Laws.{OneSpelling, TestIsSpelling};
 
 // Bytes spell at most one list of pairs.
-pub fn one_spelling() -> u8
+pub fn one_spelling()
     ensures { OneSpelling }
-{
-    0
-}
+{}
 
 // The test grants exactly the bytes that spell pairs.
-pub fn test_is_spelling() -> u8
+pub fn test_is_spelling()
     ensures { TestIsSpelling }
-{
-    0
-}
+{}
 
 // A few images, written out.
-pub fn examples_hold() -> u8
+pub fn examples_hold()
     ensures { ExamplesHold }
-{
-    0
-}
+{}

@@ -8,7 +8,7 @@ pub(crate) fn short(bytes: &[u8], at: usize) -> usize
     ensures is { result ≡ number2 bytes.now at }
     ensures small { result < 65536 }
 {
-    bytes[at] as usize + 256 * (bytes[at + 1] as usize)
+    u16::from_le_bytes([bytes[at], bytes[at + 1]]) as usize
 }
 
 // Four bytes.
@@ -17,8 +17,5 @@ pub(crate) fn long(bytes: &[u8], at: usize) -> usize
     ensures is { result ≡ number4 bytes.now at }
     ensures small { result < 4294967296 }
 {
-    bytes[at] as usize
-        + 256 * (bytes[at + 1] as usize)
-        + 65536 * (bytes[at + 2] as usize)
-        + 16777216 * (bytes[at + 3] as usize)
+    u32::from_le_bytes([bytes[at], bytes[at + 1], bytes[at + 2], bytes[at + 3]]) as usize
 }

@@ -1,99 +1,126 @@
 // The records of an image, one by one.
-ghost use Rattle.std.specs.Prelude.{◌≡◌, ◌+◌, ◌<◌, ◌≤◌, length, nat_le};
+ghost use Rattle.std.specs.Prelude.{◌≡◌, false, true, ◌+◌, ◌<◌, ◌≤◌, length, MatchOption, nat_le};
 ghost use Rattle.images.specs.Layout.{key_in, value_in};
-ghost use Rattle.images.specs.Tests.{ends_at, pair_at, Placed, good_at, Counted};
+ghost use Rattle.images.specs.Tests.{ends_at, pair_at, good_at, Placed, Counted};
 
 use crate::numbers::{long, short};
 use keys::is_key;
 use runs::is_before;
 
-const RECORD: usize = 15;
+// How many bytes a record of a pair has.
+pub(crate) const RECORD: usize = 15;
 
+// How many bytes an image has at most.
 const LONGEST: usize = 4194304;
 
-// Whether the records end at a place.
-fn ends(bytes: &[u8], at: usize) -> bool
-    ensures { result ≡ ends_at bytes.now at }
-{
-    if at >= bytes.len() {
-        return false;
-    }
-    bytes[at] == 0
+// The record of a pair that lies at a place of an image, with its parts in the image.
+#[derive(Clone, Copy)]
+pub(crate) struct Record<'a> {
+    image: &'a [u8],
+    at: usize,
+    ghost placed: { Placed image.now at },
 }
 
-fn inside(bytes: &[u8], place: usize, n: usize) -> bool
-    requires { (place < 4294967296) × (n < 4294967296) }
-    ensures { result ≡ nat_le (place + n) (length bytes.now) }
+impl<'a> Record<'a> {
+    // The record at a place that is known to have one.
+    pub(crate) fn new(image: &'a [u8], at: usize) -> Record<'a>
+        requires { Placed image.now at }
+        ensures { (result.image.now ≡ image.now) × (result.at ≡ at) }
+    {
+        Record { image, at }
+    }
+
+    // The record at a place, if a pair has one there.
+    fn at(image: &'a [u8], at: usize) -> Option<Record<'a>>
+        requires { at ≤ length image.now }
+        ensures { MatchOption result (pair_at image.now at ≡ false) (λ r. (pair_at image.now at ≡ true) × (r.image.now ≡ image.now) × (r.at ≡ at)) }
+    {
+        if has_pair(image, at) {
+            Some(Record { image, at })
+        } else {
+            None
+        }
+    }
+
+    // The key of the pair.
+    pub(crate) fn key(&self) -> &'a [u8]
+        ensures { result.now ≡ key_in self.now.image.now self.now.at }
+    {
+        let place = long(self.image, self.at + 1);
+        let n = short(self.image, self.at + 5);
+        &self.image[place..place + n]
+    }
+
+    // The value of the pair.
+    pub(crate) fn value(&self) -> &'a [u8]
+        ensures { result.now ≡ value_in self.now.image.now self.now.at }
+    {
+        let place = long(self.image, self.at + 7);
+        let n = long(self.image, self.at + 11);
+        &self.image[place..place + n]
+    }
+}
+
+// Whether the records end at a place.
+#[tactic(auto, unfolding(crate::specs::Tests::ends_at))]
+fn ends(image: &[u8], at: usize) -> bool
+    ensures { result ≡ ends_at image.now at }
 {
-    place + n <= bytes.len()
+    at < image.len() && image[at] == 0
+}
+
+// Whether so many bytes from a place on lie in the image.
+fn inside(image: &[u8], place: usize, n: usize) -> bool
+    requires { (place < 4294967296) × (n < 4294967296) }
+    ensures { result ≡ nat_le (place + n) (length image.now) }
+{
+    place + n <= image.len()
 }
 
 // Whether a whole record of a pair lies at a place, and its parts in the image.
-fn has_pair(bytes: &[u8], at: usize) -> bool
-    requires { at ≤ length bytes.now }
-    ensures { result ≡ pair_at bytes.now at }
+fn has_pair(image: &[u8], at: usize) -> bool
+    requires { at ≤ length image.now }
+    ensures { result ≡ pair_at image.now at }
 {
-    if bytes.len() - at < RECORD {
+    if image.len() - at < RECORD || image[at] != 1 {
         return false;
     }
-    if bytes[at] != 1 {
-        return false;
+    let key_place = long(image, at + 1);
+    let key_len = short(image, at + 5);
+    let value_place = long(image, at + 7);
+    let value_len = long(image, at + 11);
+    let key = inside(image, key_place, key_len);
+    let value = inside(image, value_place, value_len);
+    key && value
+}
+
+// The record at a place, if its key is one and comes after the last one.
+fn next<'a>(last: &[u8], image: &'a [u8], at: usize) -> Option<Record<'a>>
+    requires { at ≤ length image.now }
+    ensures { MatchOption result (good_at last.now image.now at ≡ false) (λ r. (good_at last.now image.now at ≡ true) × (r.image.now ≡ image.now) × (r.at ≡ at)) }
+{
+    let record = Record::at(image, at)?;
+    let key = record.key();
+    if is_key(key) && is_before(last, key) {
+        Some(record)
+    } else {
+        None
     }
-    let key_place = long(bytes, at + 1);
-    let key_len = short(bytes, at + 5);
-    let value_place = long(bytes, at + 7);
-    let value_len = long(bytes, at + 11);
-    let key = inside(bytes, key_place, key_len);
-    let value = inside(bytes, value_place, value_len);
-    key & value
-}
-
-// The key and the value of a record.
-pub(crate) fn key_of(bytes: &[u8], at: usize) -> &[u8]
-    requires { Placed bytes.now at }
-    ensures { result.now ≡ key_in bytes.now at }
-{
-    let place = long(bytes, at + 1);
-    let n = short(bytes, at + 5);
-    &bytes[place..place + n]
-}
-
-pub(crate) fn value_of(bytes: &[u8], at: usize) -> &[u8]
-    requires { Placed bytes.now at }
-    ensures { result.now ≡ value_in bytes.now at }
-{
-    let place = long(bytes, at + 7);
-    let n = long(bytes, at + 11);
-    &bytes[place..place + n]
-}
-
-// Whether a record at a place has a key that comes after the last one.
-fn is_good(last: &[u8], bytes: &[u8], at: usize) -> bool
-    requires { at ≤ length bytes.now }
-    ensures { result ≡ good_at last.now bytes.now at }
-{
-    if !has_pair(bytes, at) {
-        return false;
-    }
-    let key = key_of(bytes, at);
-    is_key(key) & is_before(last, key)
 }
 
 // How many pairs there are up to the end of the records; none where the bytes are no image.
-pub(crate) fn tally(bytes: &[u8]) -> Option<usize>
-    ensures { Counted bytes.now result }
+pub(crate) fn tally(image: &[u8]) -> Option<usize>
+    ensures { Counted image.now result }
 {
-    if bytes.len() > LONGEST {
+    if image.len() > LONGEST {
         return None;
     }
     let mut n = 0;
     let mut at = 0;
     let mut last: &[u8] = b"";
-    while !ends(bytes, at) {
-        if !is_good(last, bytes, at) {
-            return None;
-        }
-        last = key_of(bytes, at);
+    // Kept: a record tells by its kind that the records end, so no range says where the loop does.
+    while !ends(image, at) {
+        last = next(last, image, at)?.key();
         n += 1;
         at += RECORD;
     }

@@ -1,44 +1,44 @@
 // An image as a store that takes nothing and lets go nothing.
-ghost use Rattle.std.specs.Prelude.{◌≡◌, false, refl};
+ghost use Rattle.std.specs.Prelude.{◌≡◌, false, refl, unwrap_or};
 ghost use Rattle.images.specs.Spells.{listed};
 ghost use Rattle.images.specs.Lawful.{image_lawful};
 
 use crate::image::Image;
-use crate::records::{key_of, value_of};
+use crate::records::{RECORD, Record};
 use keys::{StoreFault, is_key};
 use runs::{PairRun, find};
 use stores::{ListStore, ReadStore, WriteStore};
 
 impl PairRun for Image<'_> {
-    ghost pairs = { λ s. listed s.bytes.now 0 s.count };
+    ghost pairs = { λ s. listed s.bytes.now 0 (unwrap_or s.count 0) };
 
-    ghost lawful = { λ s. image_lawful s.granted s.bytes.now s.count s.stands };
+    ghost lawful = { λ s. image_lawful s.bytes.now s.count s.stands };
 
     fn count(&self) -> usize {
-        self.count
+        self.count.unwrap_or(0)
     }
 
     fn key_at(&self, i: usize) -> &[u8] {
-        if i >= self.count {
+        if i >= self.count() {
             return b"";
         }
-        key_of(self.bytes, 15 * i)
+        Record::new(self.bytes, RECORD * i).key()
     }
 
     fn value_at(&self, i: usize) -> &[u8] {
-        if i >= self.count {
+        if i >= self.count() {
             return b"";
         }
-        value_of(self.bytes, 15 * i)
+        Record::new(self.bytes, RECORD * i).value()
     }
 }
 
 impl ReadStore for Image<'_> {
-    ghost pairs = { λ s. listed s.bytes.now 0 s.count };
+    ghost pairs = { λ s. listed s.bytes.now 0 (unwrap_or s.count 0) };
 
     ghost longest = { λ _. 400 };
 
-    ghost lawful = { λ s. image_lawful s.granted s.bytes.now s.count s.stands };
+    ghost lawful = { λ s. image_lawful s.bytes.now s.count s.stands };
 
     fn longest_key(&self) -> usize {
         400

@@ -1,3 +1,4 @@
 mod Cuts
 pub mod Outside
 mod Shown
+pub mod Refused

@@ -1,5 +1,5 @@
 // A view of any store through a prefix.
-ghost use Rattle.std.specs.Prelude.{◌≡◌, ◌-◌, ◌++◌, length, refl};
+ghost use Rattle.std.specs.Prelude.{◌≡◌, ◌+◌, ◌-◌, ◌<◌, ◌++◌, length, take, MatchResult, refl};
 ghost use Rattle.keys.specs.Values.{prefix_text};
 ghost use Rattle.stores.specs.Pairs.{mounted};
 ghost use Rattle.mounts.specs.Fronts.{lawful_under, Outside};
@@ -26,6 +26,15 @@ impl<'s, 't, S> Mount<'s, 't, S> {
     }
 }
 
+impl<S> Mount<'_, '_, S> {
+    // A text with the prefix in front; one of more than N bytes is malformed.
+    fn whole<const N: usize>(&self, text: &[u8]) -> Result<Inline<N>, StoreFault>
+        ensures { MatchResult result (λ w. take w.len w.bytes ≡ prefix_text self.now.front.now ++ text.now) (λ e. (e ≡ StoreFault.Malformed) × (N < length (prefix_text self.now.front.now) + length text.now)) }
+    {
+        Inline::of(self.front.as_bytes(), b"", text).ok_or(StoreFault::Malformed)
+    }
+}
+
 impl<S: ReadStore> ReadStore for Mount<'_, '_, S> {
     ghost pairs = { λ m. mounted (prefix_text m.front.now) (S.ReadStore.pairs m.store.now) };
 
@@ -40,11 +49,8 @@ impl<S: ReadStore> ReadStore for Mount<'_, '_, S> {
     }
 
     fn get(&self, key: &[u8], buf: &mut [u8]) -> Result<Option<usize>, StoreFault> {
-        let whole: Option<Inline<400>> = Inline::of(self.front.as_bytes(), b"", key);
-        match whole {
-            Some(whole) => self.store.get(whole.as_bytes(), buf),
-            None => Err(StoreFault::Malformed),
-        }
+        let whole = self.whole::<400>(key)?;
+        self.store.get(whole.as_bytes(), buf)
     }
 }
 
@@ -59,18 +65,13 @@ impl<S: ListStore> ListStore for Mount<'_, '_, S> {
         if self.store.longest_key() <= front.len() {
             return list_none(prefix);
         }
-        let whole: Option<Inline<401>> = Inline::of(front, b"", prefix);
-        match whole {
-            Some(whole) => {
-                let from = joined_cut(front, after);
-                let mut key = [0u8; 400];
-                let seen = self
-                    .store
-                    .next_key(whole.as_bytes(), from.as_bytes(), &mut key);
-                hand_on(seen, &key, front.len(), buf)
-            }
-            None => Err(StoreFault::Malformed),
-        }
+        let whole = self.whole::<401>(prefix)?;
+        let from = joined_cut(front, after);
+        let mut key = [0u8; 400];
+        let seen = self
+            .store
+            .next_key(whole.as_bytes(), from.as_bytes(), &mut key);
+        hand_on(seen, &key, front.len(), buf)
     }
 
     fn next_child(
@@ -79,15 +80,11 @@ impl<S: ListStore> ListStore for Mount<'_, '_, S> {
         after: &[u8],
         buf: &mut [u8],
     ) -> Result<Option<usize>, StoreFault> {
-        let front = self.front.as_bytes();
-        if self.store.longest_key() <= front.len() {
+        if self.store.longest_key() <= self.front.as_bytes().len() {
             return list_none(prefix);
         }
-        let whole: Option<Inline<401>> = Inline::of(front, b"", prefix);
-        match whole {
-            Some(whole) => self.store.next_child(whole.as_bytes(), after, buf),
-            None => Err(StoreFault::Malformed),
-        }
+        let whole = self.whole::<401>(prefix)?;
+        self.store.next_child(whole.as_bytes(), after, buf)
     }
 }
 
@@ -102,18 +99,12 @@ impl<S: WriteStore> WriteStore for Mount<'_, '_, S> {
     ghost still = { λ m. (refl, refl, S.WriteStore.still m.store.now, λ j e. refl) };
 
     fn set(&mut self, key: &[u8], value: &[u8]) -> Result<(), StoreFault> {
-        let whole: Option<Inline<400>> = Inline::of(self.front.as_bytes(), b"", key);
-        match whole {
-            Some(whole) => self.store.set(whole.as_bytes(), value),
-            None => Err(StoreFault::Malformed),
-        }
+        let whole = self.whole::<400>(key)?;
+        self.store.set(whole.as_bytes(), value)
     }
 
     fn erase(&mut self, key: &[u8]) -> Result<(), StoreFault> {
-        let whole: Option<Inline<400>> = Inline::of(self.front.as_bytes(), b"", key);
-        match whole {
-            Some(whole) => self.store.erase(whole.as_bytes()),
-            None => Err(StoreFault::Malformed),
-        }
+        let whole = self.whole::<400>(key)?;
+        self.store.erase(whole.as_bytes())
     }
 }

@@ -59,7 +59,7 @@ in_added (Some x) xs y (inl e) = inl (ap Some (sym e))
 in_added (Some x) xs y (inr i) = inr i
 
 added-first : (o : Option Bytes) (xs : List Bytes) (y : Bytes) → o ≡ Some y → In y (added o xs)
-added-first None xs y e = let z : ◌≡◌ {A = ℕ} 0 1 = grind arith in absurd (omega arith)
+added-first None xs y e = absurd (cc)
 added-first (Some x) xs y e = inl (grind arith)
 
 added_rest : (o : Option Bytes) (xs : List Bytes) (y : Bytes) → In y xs → In y (added o xs)

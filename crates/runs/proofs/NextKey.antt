@@ -14,7 +14,7 @@ use Rattle.runs.proofs.ByPlace.{ascends_at, key_at_lem, key_of}
 
 -- a key that is listed is the key itself, and begins with the prefix
 when_is : (o : Option Bytes) (k y : Bytes) → when o k ≡ Some y → ((t : Bytes) × (o ≡ Some t)) × (k ≡ y)
-when_is None k y e = let z : ◌≡◌ {A = ℕ} 0 1 = grind arith in absurd (omega arith)
+when_is None k y e = absurd (cc)
 when_is (Some t) k y e = ((t, refl), grind arith)
 
 module _ (ps : Pairs) (a : Ascends ps) (p after : Bytes) (u b i : ℕ) (s : Parted (p ++ []) ps u) (t : Parted (after ++ (0 ∷ [])) ps b) (m : i ≡ max u b) where
@@ -54,7 +54,7 @@ module _ (ps : Pairs) (a : Ascends ps) (p after : Bytes) (u b i : ℕ) (s : Part
       clear j l g = past_prefix p [] (key_at ps i) (key_at ps j) (s.high i hu h) n (ascends_at ps i j a l g)
 
       never : (j : ℕ) (y : Bytes) → stripped p (key_at ps j) ≡ None → when (stripped p (key_at ps j)) (key_at ps j) ≡ Some y → ⊥
-      never j y c e = let z : ◌≡◌ {A = ℕ} 0 1 = grind arith in omega arith
+      never j y c e = cc
 
       each : (y : Bytes) → (j : ℕ) × (j < length ps) × (when (stripped p (key_at ps j)) (key_at ps j) ≡ Some y) → before after y ≡ false
       each y k = by (cases_order k.0 i)

@@ -28,7 +28,7 @@ pub child_parts : (p k t : Bytes) → within (stripped p k) ≡ Some t → Child
 child_parts p k t h = by (stripped p k) refl h
   where
     by : (o : Option Bytes) → stripped p k ≡ o → within o ≡ Some t → Child p k t
-    by None e g = let z : ◌≡◌ {A = ℕ} 0 1 = grind arith in absurd (omega arith)
+    by None e g = absurd (cc)
     by (Some r) e g =
         let s = segment_parts r t g in
         let q : k ≡ p ++ (t ++ (47 ∷ s.1.0)) = strip_parts p k r e ∙ ap (λ (x : Bytes). p ++ x) s.1.1 in
@@ -74,7 +74,7 @@ passed_start ps p after i s j t h l e =
     front_before t (47 ∷ c.more) after (sym (before_both p (t ++ (47 ∷ c.more)) after) ∙ ap (λ (x : Bytes). before x (p ++ after)) (sym c.rest) ∙ s.low j h)
 
 no_child : (ps : Pairs) (p after : Bytes) (j : ℕ) (t : Bytes) → within (stripped p (key_at ps j)) ≡ None → within (stripped p (key_at ps j)) ≡ Some t → before after t ≡ false
-no_child ps p after j t n e = let z : ◌≡◌ {A = ℕ} 0 1 = grind arith in absurd (omega arith)
+no_child ps p after j t n e = absurd (cc)
 
 module _ (ps : Pairs) (a : Ascends ps) (p after : Bytes) (i : ℕ) (d : Passed ps p after i) where
   pub passed_plain : within (stripped p (key_at ps i)) ≡ None → Passed ps p after (i + 1)

@@ -1,18 +1,19 @@
 -- The order by bytes where texts are given in parts.
 -- Assumes nothing.
-use Rattle.std.proofs.Common.{◌≡◌, ℕ, zero, suc, ◌-◌, ◌≤◌, true, false, cond, eqb, ◌⊎◌, [], ◌∷◌, ◌++◌, length, take, drop, is_some, Some, None, Option, Equal, sym, refl, ap, ◌∙◌, inl, inr, arith, length-append, eq-eqb}
+use Rattle.std.proofs.Common.{◌≡◌, ℕ, Bool, zero, suc, ◌-◌, ◌≤◌, true, false, cond, eqb, ◌⊎◌, [], ◌∷◌, ◌++◌, length, take, drop, is_some, Some, None, Option, sym, refl, ap, ◌∙◌, inl, inr, arith, length-append, eq-eqb}
 use Rattle.std.proofs.lemmas.Bool.{both_ways, eqb-true, cases_Bool}
 use Rattle.std.proofs.lemmas.List.{drop_at, take_rest}
 use Rattle.std.proofs.lemmas.Bool.Decides.{nat_tests}
-use Rattle.text.specs.Bytes.{Bytes, before, byte_order, stripped}
-use Rattle.text.proofs.Order.{Either, before-alone, before_trans, before_either, order_equal}
+use Rattle.std.specs.Ordering.{is_lt}
+use Rattle.text.specs.Bytes.{Bytes, same, before, ordering, byte_order, stripped}
+use Rattle.text.proofs.Order.{Either, before_trans, before_either, before_not_same}
 
 pub some_of : {A : Type 0} (o : Option A) → is_some o ≡ true → (a : A) × (o ≡ Some a)
 some_of (Some a) h = (a, refl)
-some_of None h = let z : ◌≡◌ {A = ℕ} 0 1 = grind arith in absurd (omega arith)
+some_of None h = absurd (cc)
 
 pub none_of : {A : Type 0} (o : Option A) → is_some o ≡ false → o ≡ None
-none_of (Some a) h = let z : ◌≡◌ {A = ℕ} 0 1 = grind arith in absurd (omega arith)
+none_of (Some a) h = absurd (cc)
 none_of None h = refl
 
 -- ---- a prefix taken off
@@ -171,8 +172,12 @@ begins-within p k h =
     let s = some_of (stripped p k) h in
     omega (arith, ap length (strip_parts p k s.0 s.1) ∙ length-append p s.0)
 
-pub equal_not_before : (x y : Bytes) → byte_order x y ≡ Equal → before x y ≡ false
-equal_not_before x y h = ap (before x) (sym (order_equal x y h)) ∙ before-alone x
+pub is_lt_before : (x y : Bytes) → is_lt (byte_order x y) ≡ before x y
+is_lt_before x y = by (before x y) (before_not_same x y)
+  where
+    by : (b : Bool) → (b ≡ true → same x y ≡ false) → is_lt (ordering (same x y) b) ≡ b
+    by true h = rw (h refl)
+    by false h = elim (same x y) as (λ s. is_lt (ordering s false) ≡ false) [ true ↦ refl | false ↦ refl ]
 
 pub two_behind : (p b k : Bytes) → is_some (stripped p k) ≡ true → before (take (length k - length p) (drop (length p) k)) b ≡ before k (p ++ b)
 two_behind p b k h =

@@ -1,12 +1,14 @@
 -- One turn of the search for a child, as the code reads the key.
 -- Assumes nothing.
-use Rattle.std.proofs.Common.{◌≡◌, ℕ, ◌+◌, ◌<◌, ◌≤◌, Bool, true, false, [], ◌∷◌, ◌++◌, length, take, drop, is_some, Some, None, sym, ap, ◌∙◌, subst, arith}
-use Rattle.std.proofs.lemmas.List.{length-drop}
+use Rattle.std.proofs.Common.{◌≡◌, ℕ, ◌+◌, ◌-◌, ◌<◌, ◌≤◌, true, false, [], ◌∷◌, ◌++◌, length, take, drop, is_some, Some, None, sym, ap, ◌∙◌, subst, arith}
+use Rattle.std.specs.List.{position}
+use Rattle.std.proofs.lemmas.List.{length-drop, take_rest}
 use Rattle.text.specs.Bytes.{Bytes, before, stripped}
 use Rattle.stores.specs.Pairs.{Pairs, Ascends, within, segment}
 use Rattle.runs.specs.Places.{key_at}
 use Rattle.runs.specs.Search.{Parted}
-use Rattle.runs.specs.Openings.{Passed, Leads, Offers}
+use Rattle.runs.specs.Openings.{Passed}
+use Rattle.runs.proofs.Segments.{slash, cut_of}
 use Rattle.runs.proofs.Parted.{some_of, none_of, strip_parts, strip_drop}
 use Rattle.runs.proofs.Offspring.{take-joined, passed_plain, passed_under, passed_skip, skip_on}
 
@@ -19,41 +21,40 @@ front_parts p k n h =
     let s = some_of (stripped p k) h in
     ap (take (length p + n)) (strip_parts p k s.0 s.1) ∙ take-joined p s.0 n ∙ ap (λ (x : Bytes). p ++ take n x) (sym (strip_drop p k s.0 s.1))
 
+-- what the code reads behind the prefix
+abbrev pub rest : Bytes → Bytes → Bytes
+rest p k = take (length k - length p) (drop (length p) k)
+
 module _ (ps : Pairs) (a : Ascends ps) (p after : Bytes) (i : ℕ) (d : Passed ps p after i) (key : Bytes) (ek : key ≡ key_at ps i) where
   pub turn_under : i < length ps → before (key_at ps i) (p ++ after) ≡ false → false ≡ is_some (stripped p key) → Passed ps p after (length ps)
   turn_under h b n = passed_under ps a p after i d h b (ap (stripped p) (sym ek) ∙ none_of (stripped p key) (sym n))
 
-  module _ (b : true ≡ is_some (stripped p key)) (rest : Bytes) (er : rest ≡ drop (length p) key) where
-    pub turn_plain : segment rest ≡ None → Passed ps p after (i + 1)
-    turn_plain n = passed_plain ps a p after i d (ap (λ (x : Bytes). within (stripped p x)) (sym ek) ∙ within-behind p key (sym b) ∙ ap segment (sym er) ∙ n)
+  module _ (b : true ≡ is_some (stripped p key)) where
+    behind : rest p key ≡ drop (length p) key
+    behind = take_rest key (length p)
 
-    module _ (n : ℕ) (w : (n < length rest) × (segment rest ≡ Some (take n rest))) where
-      child : Bytes
-      child = take n (drop (length p) (key_at ps i))
+    child_in : within (stripped p (key_at ps i)) ≡ segment (rest p key)
+    child_in = ap (λ (x : Bytes). within (stripped p x)) (sym ek) ∙ within-behind p key (sym b) ∙ ap segment (sym behind)
 
-      pub child_is : take n rest ≡ take n (drop (length p) (key_at ps i))
-      child_is = ap (take n) (er ∙ ap (drop (length p)) ek)
+    pub turn_plain : None ≡ position slash (rest p key) → Passed ps p after (i + 1)
+    turn_plain e = passed_plain ps a p after i d (child_in ∙ cut_of (rest p key) None e)
+
+    module _ (n : ℕ) (e : Some n ≡ position slash (rest p key)) where
+      pub child_is : take n (rest p key) ≡ take n (drop (length p) (key_at ps i))
+      child_is = ap (take n) (behind ∙ ap (drop (length p)) ek)
 
       pub turn_child : within (stripped p (key_at ps i)) ≡ Some (take n (drop (length p) (key_at ps i)))
-      turn_child = ap (λ (x : Bytes). within (stripped p x)) (sym ek) ∙ within-behind p key (sym b) ∙ ap segment (sym er) ∙ w.1 ∙ ap Some child_is
+      turn_child = child_in ∙ (cut_of (rest p key) (Some n) e).1 ∙ ap Some child_is
 
-      pub turn_long : length p + n ≤ length key
-      turn_long = omega (arith, w.0, ap length er ∙ length-drop (length p) key)
+      pub turn_long : length p + n ≤ length (key_at ps i)
+      turn_long = omega (arith, (cut_of (rest p key) (Some n) e).0, ap length behind ∙ length-drop (length p) key, ap length ek)
 
-      pub turn_long_at : length p + n ≤ length (key_at ps i)
-      turn_long_at = omega (arith, turn_long, ap length ek)
-
-      module _ (h : i < length ps) (f : Bytes) (ef : f ≡ take (length p + n) key) (r : ℕ) (s : Parted (f ++ (48 ∷ [])) ps r) where
+      module _ (h : i < length ps) (r : ℕ) (s : Parted (take (length p + n) key ++ (48 ∷ [])) ps r) where
         parted : Parted ((p ++ take n (drop (length p) (key_at ps i))) ++ (48 ∷ [])) ps r
-        parted = subst (λ (x : Bytes). Parted (x ++ (48 ∷ [])) ps r) (ef ∙ ap (take (length p + n)) ek ∙ front_parts p (key_at ps i) n (ap (λ (x : Bytes). is_some (stripped p x)) (sym ek) ∙ sym b)) s
+        parted = subst (λ (x : Bytes). Parted (x ++ (48 ∷ [])) ps r) (ap (take (length p + n)) ek ∙ front_parts p (key_at ps i) n (ap (λ (x : Bytes). is_some (stripped p x)) (sym ek) ∙ sym b)) s
 
         pub turn_on : i < r
         turn_on = skip_on ps a p after i d (take n (drop (length p) (key_at ps i))) turn_child h r parted
 
-        pub turn_skip : (u : Bytes) → u ≡ take n rest → false ≡ before after u → Passed ps p after r
-        turn_skip u eu q = passed_skip ps a p after i d (take n (drop (length p) (key_at ps i))) turn_child h r parted (ap (before after) (sym (eu ∙ child_is)) ∙ sym q)
-
--- what the code learns of a front of a child
-pub offers_of : (ps : Pairs) (key : Bytes) (from : ℕ) (after : Bytes) (m : ℕ) (u f : Bytes) → u ≡ take m (drop from key) → f ≡ take (from + m) key → true ≡ before after u → (r : Bool) → Leads ps f r → Offers ps key from after m r
-offers_of ps key from after m u f eu ef b true l = (ap (before after) (sym eu) ∙ sym b, subst (λ (x : Bytes). Leads ps x true) ef l)
-offers_of ps key from after m u f eu ef b false l = λ g. subst (λ (x : Bytes). Leads ps x false) ef l
+        pub turn_skip : false ≡ before after (take n (rest p key)) → Passed ps p after r
+        turn_skip q = passed_skip ps a p after i d (take n (drop (length p) (key_at ps i))) turn_child h r parted (ap (before after) (sym child_is) ∙ sym q)

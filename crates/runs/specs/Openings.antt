@@ -3,6 +3,7 @@
 use Rattle.std.specs.Prelude.{◌≡◌, ℕ, ◌+◌, ◌<◌, ◌≤◌, Bool, true, false, ◌∷◌, ◌++◌, length, take, drop, Some, None, Option, ◌≢◌}
 use Rattle.text.specs.Bytes.{Bytes, before, stripped}
 use Rattle.stores.specs.Pairs.{Pairs, within, segment}
+use Rattle.runs.specs.declared.children.Child.{Child}
 use Rattle.runs.specs.Places.{key_at}
 
 -- how long the part of a text before its first `/` is, or none if there is no `/`
@@ -19,14 +20,14 @@ Leads ps f false = (i : ℕ) (m : Bytes) → i < length ps → key_at ps i ≢ f
 abbrev pub Passed : Pairs → Bytes → Bytes → ℕ → Type 0
 Passed ps p after i = (j : ℕ) (t : Bytes) → j < i → j < length ps → within (stripped p (key_at ps j)) ≡ Some t → before after t ≡ false
 
--- the first key that has one: its place, and how long the child is
-abbrev pub Opening : Pairs → Bytes → Bytes → Option (ℕ × ℕ) → Type 0
+-- the first key that has one, and its child
+abbrev pub Opening : Pairs → Bytes → Bytes → Option Child → Type 0
 Opening ps p after None = Passed ps p after (length ps)
-Opening ps p after (Some s) =
-    (s.0 < length ps) × Passed ps p after s.0
-    × (length p + s.1 ≤ length (key_at ps s.0))
-    × (within (stripped p (key_at ps s.0)) ≡ Some (take s.1 (drop (length p) (key_at ps s.0))))
-    × (before after (take s.1 (drop (length p) (key_at ps s.0))) ≡ true)
+Opening ps p after (Some c) =
+    (c.place < length ps) × Passed ps p after c.place
+    × (length p + c.len ≤ length (key_at ps c.place))
+    × (within (stripped p (key_at ps c.place)) ≡ Some (take c.len (drop (length p) (key_at ps c.place))))
+    × (before after (take c.len (drop (length p) (key_at ps c.place))) ≡ true)
 
 -- whether the m bytes of a key behind its first `from` come after the given bytes and have keys below them
 abbrev pub Offers : Pairs → Bytes → ℕ → Bytes → ℕ → Bool → Type 0

@@ -1,37 +1,24 @@
 // Children under a prefix: what stands between the prefix and the next `/` of some key.
-ghost use Rattle.std.specs.Prelude.{◌≡◌, ◌+◌, ◌≤◌, length, take, drop};
-ghost use Rattle.runs.specs.Openings.{Cut, Leads, Opening, Offers, First};
+ghost use Rattle.std.specs.Prelude.{◌≡◌, ◌+◌, ◌≤◌, length, position, ◌==◌};
+ghost use Rattle.runs.specs.Openings.{Leads, Opening, Offers, First};
 
 use crate::order::{comes_before, is_before};
 use crate::run::PairRun;
 use crate::search::seek;
 use text::begins_with;
 
-// The first bytes of a text, and those behind.
-pub(crate) fn front(text: &[u8], n: usize) -> &[u8]
-    requires { n ≤ length text.now }
-    ensures { result.now ≡ take n text.now }
-{
-    &text[..n]
-}
-
-pub(crate) fn behind(text: &[u8], n: usize) -> &[u8]
-    requires { n ≤ length text.now }
-    ensures { result.now ≡ drop n text.now }
-{
-    &text[n..]
+// Where the key of a child stands, and how long the child is.
+#[derive(Drop)]
+pub(crate) struct Child {
+    pub(crate) place: usize,
+    pub(crate) len: usize,
 }
 
 // How long the part before the first `/` is.
 fn cut(text: &[u8]) -> Option<usize>
-    ensures { Cut text.now result }
+    ensures { result ≡ position (λ b. b == 47) text.now }
 {
-    for i in 0..text.len() {
-        if text[i] == b'/' {
-            return Some(i);
-        }
-    }
-    None
+    text.iter().position(|b| *b == b'/')
 }
 
 // Whether some key is the text, `/` and more.
@@ -39,31 +26,29 @@ fn leads<R: PairRun>(run: &R, text: &[u8]) -> bool
     ensures { Leads (R.PairRun.pairs run.now) text.now result }
 {
     let i = seek(run, text, b"/");
-    if i >= run.count() {
-        return false;
-    }
-    comes_before(run.key_at(i), text, b"0")
+    i < run.count() && comes_before(run.key_at(i), text, b"0")
 }
 
-// The first key whose child comes after the given bytes: its place, and how long the child is.
-pub(crate) fn opening<R: PairRun>(run: &R, prefix: &[u8], after: &[u8]) -> Option<(usize, usize)>
+// The first key whose child comes after the given bytes.
+pub(crate) fn opening<R: PairRun>(run: &R, prefix: &[u8], after: &[u8]) -> Option<Child>
     ensures { Opening (R.PairRun.pairs run.now) prefix.now after.now result }
 {
     let count = run.count();
     let mut i = seek(run, prefix, after);
+    // Kept: the place jumps past what lies under a child, so no `for` goes over it.
     while i < count {
         let key = run.key_at(i);
         if !begins_with(key, prefix) {
             return None;
         }
-        let rest = behind(key, prefix.len());
+        let rest = &key[prefix.len()..];
         match cut(rest) {
             None => i += 1,
             Some(n) => {
-                if is_before(after, front(rest, n)) {
-                    return Some((i, n));
+                if is_before(after, &rest[..n]) {
+                    return Some(Child { place: i, len: n });
                 }
-                i = seek(run, front(key, prefix.len() + n), b"0");
+                i = seek(run, &key[..prefix.len() + n], b"0");
             }
         }
     }
@@ -75,10 +60,7 @@ fn offers<R: PairRun>(run: &R, key: &[u8], from: usize, m: usize, after: &[u8]) 
     requires { from + m ≤ length key.now }
     ensures { Offers (R.PairRun.pairs run.now) key.now from after.now m result }
 {
-    if !is_before(after, front(behind(key, from), m)) {
-        return false;
-    }
-    leads(run, front(key, from + m))
+    is_before(after, &key[from..from + m]) && leads(run, &key[..from + m])
 }
 
 // The shortest front of a child that is a child itself and comes after the given bytes: how long it is.
@@ -92,10 +74,7 @@ pub(crate) fn shortest<R: PairRun>(
     requires { from + n ≤ length key.now }
     ensures { First (R.PairRun.pairs run.now) key.now from after.now n result }
 {
-    for m in 0..n {
-        if offers(run, key, from, m, after) {
-            return m;
-        }
-    }
-    n
+    (0..n)
+        .find(|m| offers(run, key, from, *m, after))
+        .unwrap_or(n)
 }

@@ -1,7 +1,6 @@
 // Pairs that lie in the order of their keys, and what is asked of them, by halving.
 #![tactic(auto)]
 
-mod answers;
 mod children;
 mod list;
 mod order;

@@ -1,19 +1,13 @@
 // Keys under a prefix, in their order.
-ghost use Rattle.std.specs.Prelude.{◌≡◌, max, length};
+ghost use Rattle.std.specs.Prelude.{◌≡◌, length};
 ghost use Rattle.stores.specs.Answers.{key_after, child_after, answer, filled};
 
-use crate::answers::hand_out;
-use crate::children::{behind, front, opening, shortest};
+use crate::children::{opening, shortest};
 use crate::run::PairRun;
 use crate::search::seek;
 use keys::{StoreFault, is_prefix};
+use stores::hand_out;
 use text::begins_with;
-
-fn larger(a: usize, b: usize) -> usize
-    ensures { result ≡ max a b }
-{
-    if a < b { b } else { a }
-}
 
 // The least key under the prefix that comes after the given bytes, written to the front of the buffer.
 pub fn next_key<R: PairRun>(
@@ -30,7 +24,7 @@ pub fn next_key<R: PairRun>(
     }
     let under = seek(run, prefix, b"");
     let behind = seek(run, after, b"\0");
-    let i = larger(under, behind);
+    let i = under.max(behind);
     if i >= run.count() {
         return Ok(None);
     }
@@ -57,10 +51,10 @@ pub fn next_child<R: PairRun>(
     }
     match opening(run, prefix, after) {
         None => Ok(None),
-        Some((i, n)) => {
-            let key = run.key_at(i);
-            let m = shortest(run, key, prefix.len(), n, after);
-            hand_out(front(behind(key, prefix.len()), m), buf)
+        Some(child) => {
+            let key = run.key_at(child.place);
+            let m = shortest(run, key, prefix.len(), child.len, after);
+            hand_out(&key[prefix.len()..prefix.len() + m], buf)
         }
     }
 }

@@ -2,18 +2,14 @@
 ghost use Rattle.std.specs.Prelude.{◌≡◌, ◌++◌};
 ghost use Rattle.text.specs.Bytes.{before};
 
-use std::cmp::Ordering;
 use text::{begins_with, compare};
 
 // Whether a text comes before another.
+#[tactic(auto, using(crate::proofs::Parted::is_lt_before))]
 pub fn is_before(a: &[u8], b: &[u8]) -> bool
     ensures { result ≡ before a.now b.now }
 {
-    match compare(a, b) {
-        Ordering::Less => true,
-        Ordering::Equal => false,
-        Ordering::Greater => false,
-    }
+    compare(a, b).is_lt()
 }
 
 // Whether a key comes before a text given in two parts.

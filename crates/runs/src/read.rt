@@ -3,10 +3,10 @@ ghost use Rattle.std.specs.Prelude.{◌≡◌, length};
 ghost use Rattle.stores.specs.Answers.{got, answer, filled};
 ghost use Rattle.runs.specs.Search.{Located};
 
-use crate::answers::hand_out;
 use crate::run::PairRun;
 use crate::search::seek;
 use keys::{StoreFault, is_key};
+use stores::hand_out;
 use text::equal;
 
 // The place of a key, if it is there.
@@ -14,13 +14,11 @@ pub fn find<R: PairRun>(run: &R, key: &[u8]) -> Option<usize>
     ensures { Located (R.PairRun.pairs run.now) key.now result }
 {
     let i = seek(run, key, b"");
-    if i >= run.count() {
-        return None;
+    if i < run.count() && equal(key, run.key_at(i)) {
+        Some(i)
+    } else {
+        None
     }
-    if !equal(key, run.key_at(i)) {
-        return None;
-    }
-    Some(i)
 }
 
 // The value of a key, written to the front of the buffer; answers its length.

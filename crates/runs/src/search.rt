@@ -9,6 +9,7 @@ use crate::run::PairRun;
 pub fn seek<R: PairRun>(run: &R, front: &[u8], back: &[u8]) -> usize
     ensures { Parted (front.now ++ back.now) (R.PairRun.pairs run.now) result }
 {
+    // Kept: the library halves a slice only, and these keys lie behind a trait, each read by its place.
     let mut low = 0;
     let mut high = run.count();
     while low < high {

@@ -23,7 +23,7 @@ fitted_none n (Some v) h =
 
 pub got_none : (b : Bool) (n : ℕ) (o : Option Bytes) → answer (guarded b (fitted n o)) ≡ Ok None → (b ≡ true) × (o ≡ None)
 got_none true n o h = (refl, fitted_none n o h)
-got_none false n o h = let z : ◌≡◌ {A = ℕ} 0 1 = grind arith in absurd (omega arith)
+got_none false n o h = absurd (cc)
 
 pub erase_absent_lem : (m : Meaning) (k : Bytes) (n : ℕ) → answer (got m.longest m.pairs k n) ≡ Ok None → Erase k m m (Ok tt)
 erase_absent_lem m k n h =

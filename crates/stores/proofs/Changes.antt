@@ -148,8 +148,8 @@ wrote_gone true true e ps m n r k size w h s o =
     let l : lookup k n.pairs ≡ None = ap (lookup k) s.kept.0 ∙ h in
     let g : well_key n.longest k ≡ true = ap (λ (x : ℕ). well_key x k) s.kept.1 ∙ w in
     ap (λ (b : Bool). guarded b (fitted size (lookup k n.pairs))) g ∙ ap (λ (q : Option Bytes). fitted size q) l
-wrote_gone true false e ps m n r k size w h s o = let a : r ≡ Err e = s.answers in let z : ◌≡◌ {A = ℕ} 0 1 = grind arith in absurd (omega arith)
-wrote_gone false t e ps m n r k size w h s o = let a : r ≡ Err Malformed = s.answers in let z : ◌≡◌ {A = ℕ} 0 1 = grind arith in absurd (omega arith)
+wrote_gone true false e ps m n r k size w h s o = let a : r ≡ Err e = s.answers in absurd (cc)
+wrote_gone false t e ps m n r k size w h s o = let a : r ≡ Err Malformed = s.answers in absurd (cc)
 
 pub erase_then_get_lem : EraseThenGet
 erase_then_get_lem k m n r size l s e =

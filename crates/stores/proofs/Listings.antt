@@ -103,7 +103,7 @@ lower_short m y t (Some z) h f e =
     ]) e
 
 pub least_short : (m : ℕ) (x t : Bytes) (xs : List Bytes) → Short m xs → least x xs ≡ Some t → length t ≤ m
-least_short m x t [] h e = let z : ◌≡◌ {A = ℕ} 0 1 = grind arith in absurd (omega arith)
+least_short m x t [] h e = absurd (cc)
 least_short m x t (y ∷ xs) h e =
     (elim (before x y) as (λ b. cond b (lower y (least x xs)) (least x xs) ≡ Some t → length t ≤ m) [
       | true ↦ λ q. lower_short m y t (least x xs) h.0 (λ z. least_short m x z xs h.1) q
@@ -178,7 +178,7 @@ key_below longest p q after ps h x l w =
 -- ---- a store that can have no key
 
 no_key : (k : Bytes) → well_key 0 k ≡ true → ⊥
-no_key [] h = let z : ◌≡◌ {A = ℕ} 0 1 = grind arith in omega arith
+no_key [] h = cc
 no_key (y ∷ k) h =
     let l : length (y ∷ k) ≤ 0 = leb-true (length (y ∷ k)) 0 (and_parts (leb (length (y ∷ k)) 0) (is_text (y ∷ k)) (and_parts (key_form true (y ∷ k)) _ h).1).0 in
     omega arith

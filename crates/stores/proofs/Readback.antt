@@ -1,6 +1,6 @@
 -- What was set is read back.
 -- Assumes nothing.
-use Rattle.std.proofs.Common.{◌≡◌, ℕ, Bool, true, false, cond, leb, [], ◌∷◌, ◌++◌, length, drop, IfOk, Some, Ok, Err, Result, refl, arith}
+use Rattle.std.proofs.Common.{◌≡◌, ℕ, Bool, true, false, cond, leb, [], ◌∷◌, ◌++◌, length, drop, IfOk, Some, Ok, Err, Result, refl}
 use Rattle.keys.specs.declared.fault.StoreFault.{StoreFault}
 use Rattle.keys.specs.declared.fault.StoreFault.TheVariants.{Malformed, Longer, NotTaken}
 use Rattle.text.specs.Bytes.{Bytes, same, before}
@@ -22,8 +22,8 @@ lookup-inserted k v (a ∷ ps) = lookup_in k v a ps (same k a.key) (before k a.k
 -- a granted set: the key was well formed, and the pair is in
 pub granted : (w t : Bool) (ps : Pairs) (m n : Meaning) (r : Result Unit StoreFault) → Wrote (guarded w (decided t NotTaken ps)) m n r → r ≡ Ok tt → (w ≡ true) × (n.pairs ≡ ps) × (n.longest ≡ m.longest)
 granted true true ps m n r s e = (refl, s.kept.0, s.kept.1)
-granted true false ps m n r s e = let a : r ≡ Err NotTaken = s.answers in let z : ◌≡◌ {A = ℕ} 0 1 = grind arith in absurd (omega arith)
-granted false t ps m n r s e = let a : r ≡ Err Malformed = s.answers in let z : ◌≡◌ {A = ℕ} 0 1 = grind arith in absurd (omega arith)
+granted true false ps m n r s e = let a : r ≡ Err NotTaken = s.answers in absurd (cc)
+granted false t ps m n r s e = let a : r ≡ Err Malformed = s.answers in absurd (cc)
 
 pub read_after : (k v : Bytes) (m n : Meaning) (r : Result Unit StoreFault) (size : ℕ) → Set k v m n r → r ≡ Ok tt → got n.longest n.pairs k size ≡ fitted size (Some v)
 read_after k v m n r size s e =

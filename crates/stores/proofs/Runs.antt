@@ -26,8 +26,8 @@ least_none x [] e u h = absurd h
 least_none x (y ∷ xs) e u h = by (before x y) refl e h (λ q. least_none x xs q u)
   where
     never : (o : Option Bytes) → lower y o ≡ None → ⊥
-    never None q = let z : ◌≡◌ {A = ℕ} 0 1 = grind arith in omega arith
-    never (Some t) q = let z : ◌≡◌ {A = ℕ} 0 1 = grind arith in omega arith
+    never None q = cc
+    never (Some t) q = cc
 
     by : (b : Bool) → before x y ≡ b → cond b (lower y (least x xs)) (least x xs) ≡ None → (u ≡ y) ⊎ In u xs → (least x xs ≡ None → In u xs → before x u ≡ false) → before x u ≡ false
     by true i q h ih = absurd (never (least x xs) q)
@@ -65,7 +65,7 @@ lower-least x y t xs (Some z) e b f q = by (before y z) refl q
     by false l r = let j : z ≡ t = grind arith in subst (λ (v : Bytes). Least x (y ∷ xs) v) j (record { past = g.past; member = inr g.member; first = λ u h i. more u l h i })
 
 pub least_some : (x : Bytes) (xs : List Bytes) (t : Bytes) → least x xs ≡ Some t → Least x xs t
-least_some x [] t e = let z : ◌≡◌ {A = ℕ} 0 1 = grind arith in absurd (omega arith)
+least_some x [] t e = absurd (cc)
 least_some x (y ∷ xs) t e = by (before x y) refl e (λ u. least_some x xs u)
   where
     rest : (w : before x y ≡ false) → Least x xs t → Least x (y ∷ xs) t

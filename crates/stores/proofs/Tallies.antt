@@ -42,11 +42,11 @@ segment_short : (m : ℕ) (t : Bytes) (xs : List Bytes) → length t ≤ m → S
 segment_short m t xs h s = by (segment t) (part t)
   where
     opened_size : (b : ℕ) (t : Bytes) (o : Option Bytes) → ((u : Bytes) → o ≡ Some u → length u ≤ length t) → (u : Bytes) → opened o b ≡ Some u → length u ≤ length (b ∷ t)
-    opened_size b t None f u e = let z : ◌≡◌ {A = ℕ} 0 1 = grind arith in absurd (omega arith)
+    opened_size b t None f u e = absurd (cc)
     opened_size b t (Some v) f u e = let j : b ∷ v ≡ u = grind arith in let k : length v ≤ length t = f v refl in rw (sym j) (omega arith)
 
     part : (t u : Bytes) → segment t ≡ Some u → length u ≤ length t
-    part [] u e = let z : ◌≡◌ {A = ℕ} 0 1 = grind arith in absurd (omega arith)
+    part [] u e = absurd (cc)
     part (b ∷ t) u e =
         (elim (eqb b 47) as (λ c. cond c (Some []) (opened (segment t) b) ≡ Some u → length u ≤ length (b ∷ t)) [
           | true ↦ λ q. let j : [] ≡ u = grind arith in rw (sym j) (omega arith)
@@ -77,7 +77,7 @@ pub record Named (xs : List Bytes) (x buf new : Bytes) (n : ℕ) : Type 0 where
   pub fills : new ≡ text ++ drop (length text) buf
 
 found_one : (w : Bool) (xs : List Bytes) (x buf : Bytes) (o : Option Bytes) (n : ℕ) → Short 400 xs → least x xs ≡ o → Ok (Some n) ≡ answer (guarded w (fitted (length buf) o)) → Named xs x buf (filled (guarded w (fitted (length buf) o)) buf) n
-found_one true xs x buf None n s e h = let z : ◌≡◌ {A = ℕ} 0 1 = grind arith in absurd (omega arith)
+found_one true xs x buf None n s e h = absurd (cc)
 found_one true xs x buf (Some t) n s e h = by (leb (length t) (length buf)) refl h
   where
     by : (b : Bool) → leb (length t) (length buf) ≡ b → Ok (Some n) ≡ answer (cond b (Ok (Some t)) (Err Longer)) → Named xs x buf (filled (cond b (Ok (Some t)) (Err Longer)) buf) n
@@ -86,8 +86,8 @@ found_one true xs x buf (Some t) n s e h = by (leb (length t) (length buf)) refl
         let f : length t ≤ length buf = leb-true (length t) (length buf) l in
         let k : length t ≤ 400 = least_short 400 x t xs s e in
         record { text = t; is = e; size = sym j; fits = omega arith; short = omega arith; fills = refl }
-    by false l q = let z : ◌≡◌ {A = ℕ} 0 1 = grind arith in absurd (omega arith)
-found_one false xs x buf o n s e h = let z : ◌≡◌ {A = ℕ} 0 1 = grind arith in absurd (omega arith)
+    by false l q = absurd (cc)
+found_one false xs x buf o n s e h = absurd (cc)
 
 pub one_named : (longest : ℕ) (ps : Pairs) (p x buf new : Bytes) (r : Result (Option ℕ) StoreFault) (n : ℕ) → Lawful ps longest → r ≡ Ok (Some n) → r ≡ answer (child_after longest ps p x (length buf)) → new ≡ filled (child_after longest ps p x (length buf)) buf → Named (children p ps) x buf new n
 one_named longest ps p x buf new r n l o e f =
@@ -103,10 +103,10 @@ found_none : (w : Bool) (n : ℕ) (o : Option Bytes) (buf : Bytes) → Ok None �
 found_none true n None buf h = (refl, refl, refl)
 found_none true n (Some t) buf h =
     (elim (leb (length t) n) as (λ b. Ok None ≡ answer (cond b (Ok (Some t)) (Err Longer)) → (true ≡ true) × (Some t ≡ None) × (filled (cond b (Ok (Some t)) (Err Longer)) buf ≡ buf)) [
-      | true ↦ λ q. let z : ◌≡◌ {A = ℕ} 0 1 = grind arith in absurd (omega arith)
-      | false ↦ λ q. let z : ◌≡◌ {A = ℕ} 0 1 = grind arith in absurd (omega arith)
+      | true ↦ λ q. absurd (cc)
+      | false ↦ λ q. absurd (cc)
     ]) h
-found_none false n o buf h = let z : ◌≡◌ {A = ℕ} 0 1 = grind arith in absurd (omega arith)
+found_none false n o buf h = absurd (cc)
 
 pub none_left : (longest : ℕ) (ps : Pairs) (p x buf new : Bytes) (r : Result (Option ℕ) StoreFault) → r ≡ Ok None → r ≡ answer (child_after longest ps p x (length buf)) → new ≡ filled (child_after longest ps p x (length buf)) buf → NoneLeft longest ps p x buf new
 none_left longest ps p x buf new r o e f =
@@ -116,8 +116,8 @@ none_left longest ps p x buf new r o e f =
 -- the question was refused
 found_fault : (f : Found) (e : StoreFault) (buf : Bytes) → Err e ≡ answer f → (f ≡ Err e) × (filled f buf ≡ buf)
 found_fault (Err d) e buf h = let j : e ≡ d = grind arith in (ap (λ (x : StoreFault). Err x) (sym j), refl)
-found_fault (Ok None) e buf h = let z : ◌≡◌ {A = ℕ} 0 1 = grind arith in absurd (omega arith)
-found_fault (Ok (Some t)) e buf h = let z : ◌≡◌ {A = ℕ} 0 1 = grind arith in absurd (omega arith)
+found_fault (Ok None) e buf h = absurd (cc)
+found_fault (Ok (Some t)) e buf h = absurd (cc)
 
 -- ---- the count
 

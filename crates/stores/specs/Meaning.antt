@@ -1,9 +1,9 @@
--- What a store means: its pairs, its longest key, what it takes and what it lets go; and each call that writes as a relation between the meaning before and after it.
+-- What a store means, by its members: its pairs, its longest key, what it takes and what it lets go; and each call that writes as a relation between the meaning before and after it.
 -- Assumes nothing.
 use Rattle.std.specs.Prelude.{◌≡◌, ℕ, ◌-◌, Bool, ◌++◌, length, Ok, Err, Result}
 use Rattle.keys.specs.declared.fault.StoreFault.{StoreFault}
 use Rattle.text.specs.Bytes.{Bytes}
-use Rattle.stores.specs.Pairs.{Pairs, mounted}
+use Rattle.stores.specs.Pairs.{Pairs, Lawful, mounted}
 use Rattle.stores.specs.Answers.{put, erased, done}
 
 pub record Meaning : Type 0 where
@@ -29,6 +29,21 @@ Erase k m n r = Wrote (erased m.longest m.pairs m.lets k) m n r
 
 abbrev pub means : Pairs → ℕ → (Bytes → ℕ → Bool) → (Bytes → Bool) → Meaning
 means ps n t l = record { pairs = ps; longest = n; takes = t; lets = l }
+
+-- what the traits of a store tell of it
+abbrev pub Members : Type 0 → Type 1
+Members S = record {
+  pairs : S → Pairs;
+  longest : S → ℕ;
+  lawful : (s : S) → Lawful (pairs s) (longest s);
+  takes : S → Bytes → ℕ → Bool;
+  lets : S → Bytes → Bool;
+  ties : S → S → Type 0;
+  still : (s : S) → ties s s;
+}
+
+abbrev pub meaning_of : {S : Type 0} → Members S → S → Meaning
+meaning_of told s = means (told.pairs s) (told.longest s) (told.takes s) (told.lets s)
 
 -- a store seen through a prefix
 abbrev pub view : Bytes → Meaning → Meaning

@@ -13,11 +13,12 @@ pub fn count_children<S: ListStore>(
 ) -> Result<usize, StoreFault>
     ensures { Tally (S.ReadStore.longest store.now) (S.ReadStore.pairs store.now) prefix.now name.old name.new result }
 {
+    // Kept: no heap in the engine, so the last name lies in a buffer of fixed size with its length beside.
     let mut last = [0u8; 400];
     let mut len = 0;
     let mut count: usize = 0;
-    while let Some(n) = store.next_child(prefix, &last[0..len], name)? {
-        last[0..n].copy_from_slice(&name[0..n]);
+    while let Some(n) = store.next_child(prefix, &last[..len], name)? {
+        last[..n].copy_from_slice(&name[..n]);
         len = n;
         count = count.saturating_add(1);
     }

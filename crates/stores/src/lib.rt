@@ -1,6 +1,7 @@
 // What every store offers: reading, listing and writing.
 #![tactic(auto)]
 
+mod answers;
 mod back;
 mod calls;
 mod count;
@@ -9,6 +10,7 @@ mod list;
 mod read;
 mod write;
 
+pub use answers::hand_out;
 pub use back::{read_back, read_gone};
 pub use calls::{longest_of, put};
 pub use count::count_children;

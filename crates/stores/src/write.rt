@@ -1,7 +1,7 @@
 // Writing to a store.
 ghost use Rattle.std.specs.Prelude.{ℕ, Bool};
 ghost use Rattle.text.specs.Bytes.{Bytes};
-ghost use Rattle.stores.specs.Meaning.{means, Set, Erase};
+ghost use Rattle.stores.specs.Meaning.{meaning_of, Set, Erase};
 
 use crate::list::ListStore;
 use crate::read::ReadStore;
@@ -21,14 +21,10 @@ pub trait WriteStore: ListStore {
     // Gives a key a value.
     fn set(&mut self, key: &[u8], value: &[u8]) -> Result<(), StoreFault>
         ensures ties { ties self.old self.new }
-        ensures means { Set key.now value.now
-            (means (Self.ReadStore.pairs self.old) (Self.ReadStore.longest self.old) (takes self.old) (lets self.old))
-            (means (Self.ReadStore.pairs self.new) (Self.ReadStore.longest self.new) (takes self.new) (lets self.new)) result };
+        ensures means { Set key.now value.now (meaning_of Self.WriteStore self.old) (meaning_of Self.WriteStore self.new) result };
 
     // Removes a key and its value; a key that is not there is granted.
     fn erase(&mut self, key: &[u8]) -> Result<(), StoreFault>
         ensures ties { ties self.old self.new }
-        ensures means { Erase key.now
-            (means (Self.ReadStore.pairs self.old) (Self.ReadStore.longest self.old) (takes self.old) (lets self.old))
-            (means (Self.ReadStore.pairs self.new) (Self.ReadStore.longest self.new) (takes self.new) (lets self.new)) result };
+        ensures means { Erase key.now (meaning_of Self.WriteStore self.old) (meaning_of Self.WriteStore self.new) result };
 }

@@ -1,28 +1,31 @@
-use Rattle.std.proofs.Common.{sym, arith}
+use Rattle.std.proofs.Common.{sym, ap, ◌∙◌, arith}
+use Rattle.images.specs.Layout.{key_in}
 use Rattle.images.proofs.Counting.{passed_none, long_none, counted, refused, passed_more, good_within}
 use Rattle.images.proofs.records.tally.Goals as goal
 
-pub returns-then-bytes-gt-LONGEST : goal.returns-then-bytes-gt-LONGEST
-returns-then-bytes-gt-LONGEST c = long_none c.args.bytes.now (omega arith)
+pub returns-then-image-gt-LONGEST : goal.returns-then-image-gt-LONGEST
+returns-then-image-gt-LONGEST c = long_none c.args.image.now (omega arith)
 
 pub loop-last-init : goal.loop-last-init
-loop-last-init c = passed_none c.args.bytes.now
+loop-last-init c = passed_none c.args.image.now
 
-pub returns-then-not-is_good : goal.returns-then-not-is_good
-returns-then-not-is_good c =
-    refused c.args.bytes.now c.loop-last.n c.loop-last.at c.loop-last.last.now c.loop-last.invariant (omega arith) (sym c.loop-last-test.ensures) (sym c.if-not-is_good.ensures)
+pub next-requires : goal.next-requires
+next-requires c = c.loop-last.invariant.within
 
-pub key_of-last-requires : goal.key_of-last-requires
-key_of-last-requires c = good_within c.args.bytes.now c.loop-last.n c.loop-last.at c.loop-last.last.now c.loop-last.invariant (sym c.if-not-is_good.ensures)
+pub returns-in_err-next : goal.returns-in_err-next
+returns-in_err-next c =
+    rw c.from_residual.ensures (refused c.args.image.now c.loop-last.n c.loop-last.at c.loop-last.last.now c.loop-last.invariant (omega arith) (sym c.loop-last-test.ensures) c.in_err-next.ensures)
 
 pub loop-last-smaller : goal.loop-last-smaller
 loop-last-smaller c =
-    let w = good_within c.args.bytes.now c.loop-last.n c.loop-last.at c.loop-last.last.now c.loop-last.invariant (sym c.if-not-is_good.ensures) in
+    let w = good_within c.args.image.now c.loop-last.n c.loop-last.at c.loop-last.last.now c.loop-last.invariant c.in_ok-next.ensures.0 in
     omega (arith, w.room)
 
 pub loop-last-preserved : goal.loop-last-preserved
 loop-last-preserved c =
-    passed_more c.args.bytes.now c.loop-last.n c.loop-last.at c.loop-last.last.now c.loop-last.invariant c.key_of-last.result.now c.key_of-last.ensures (sym c.if-not-is_good.ensures)
+    let r = c.in_ok-next.field-0 in
+    let g = c.in_ok-next.ensures in
+    passed_more c.args.image.now c.loop-last.n c.loop-last.at c.loop-last.last.now c.loop-last.invariant c.key-last.result.now (c.key-last.ensures ∙ ap (λ b. key_in b r.at) g.1 ∙ ap (key_in c.args.image.now) g.2) g.0
 
 pub returns : goal.returns
-returns c = counted c.args.bytes.now c.loop-last.n c.loop-last.at c.loop-last.last.now c.loop-last.invariant (omega arith) (sym c.loop-last-test.ensures)
+returns c = counted c.args.image.now c.loop-last.n c.loop-last.at c.loop-last.last.now c.loop-last.invariant (omega arith) (sym c.loop-last-test.ensures)

@@ -1,17 +1,19 @@
-use Rattle.std.proofs.Common.{◌≡◌, ℕ, Bool, true, false, [], ◌∷◌, ◌++◌, sym, ap, ◌∙◌, arith}
+use Rattle.std.proofs.Common.{◌≡◌, ℕ, Bool, true, false, [], ◌∷◌, ◌++◌, nat_lt, sym, ap, ◌∙◌, subst, arith}
+use Rattle.std.proofs.lemmas.Bool.Decides.{nat_tests}
 use Rattle.text.specs.Bytes.{Bytes, before}
 use Rattle.runs.specs.Openings.{Leads}
 use Rattle.runs.specs.Places.{key_at}
 use Rattle.runs.proofs.Offspring.{leads_end, leads_here, leads_past}
 use Rattle.runs.proofs.children.leads.Goals as goal
 
+pub returns-else-i-count : goal.returns-else-i-count
+returns-else-i-count g c =
+    let s = c.args.run.now in
+    let e : nat_lt c.seek-i.result c.count.result ≡ false = grind (arith, nat_tests) in
+    subst (λ (b : Bool). Leads (g.R.PairRun.pairs s) c.args.text.now b) (sym e) (leads_end (g.R.PairRun.pairs s) (g.R.PairRun.lawful s).ascends c.args.text.now c.seek-i.result c.seek-i.ensures (omega arith))
+
 pub returns-then-i-count : goal.returns-then-i-count
 returns-then-i-count g c =
-    let s = c.args.run.now in
-    leads_end (g.R.PairRun.pairs s) (g.R.PairRun.lawful s).ascends c.args.text.now c.seek-i.result c.seek-i.ensures (omega arith)
-
-pub returns : goal.returns
-returns g c =
     let s = c.args.run.now in
     let ps = g.R.PairRun.pairs s in
     let a = (g.R.PairRun.lawful s).ascends in

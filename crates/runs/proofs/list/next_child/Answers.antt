@@ -1,4 +1,4 @@
-use Rattle.std.proofs.Common.{◌≡◌, ℕ, length, take, drop, Some, None, Ok, Err, sym, ap, ◌∙◌, subst, arith}
+use Rattle.std.proofs.Common.{◌≡◌, ℕ, ◌+◌, ◌-◌, length, take, drop, Some, None, Ok, Err, sym, ap, ◌∙◌, subst, arith}
 use Rattle.std.proofs.lemmas.List.{length-drop, length-take-le}
 use Rattle.keys.specs.declared.fault.StoreFault.TheVariants.{Malformed}
 use Rattle.text.specs.Bytes.{Bytes}
@@ -18,12 +18,6 @@ returns-then-not-is_prefix g c =
     let e : child_after 400 ps p a (length b) ≡ Err Malformed = child_after_malformed ps p a (length b) (sym c.if-not-is_prefix.ensures) in
     record { answers = sym (ap answer e); fills = sym (ap (λ (f : Found). filled f b) e) }
 
-pub front-requires : goal.front-requires
-front-requires g c =
-    let k : length c.key_at-key.result.now ≡ length (key_at (g.R.PairRun.pairs c.args.run.now) c.in-Some.i) = ap length c.key_at-key.ensures in
-    let b = ap length c.behind.ensures ∙ length-drop (length c.args.prefix.now) c.key_at-key.result.now in
-    omega (arith, c.shortest-m.ensures.within, c.in-Some.ensures.2)
-
 pub returns-in-None : goal.returns-in-None
 returns-in-None g c =
     let ps = g.R.PairRun.pairs c.args.run.now in
@@ -40,14 +34,14 @@ returns-in-Some g c =
     let p : Bytes = c.args.prefix.now in
     let a : Bytes = c.args.after.now in
     let b : Bytes = c.args.buf.now in
-    let i : ℕ = c.in-Some.i in
-    let n : ℕ = c.in-Some.n in
+    let i : ℕ = c.in-Some.child.place in
+    let n : ℕ = c.in-Some.child.len in
     let m : ℕ = c.shortest-m.result in
     let t : Bytes = take n (drop (length p) (key_at ps i)) in
     let long : length t ≡ n = length-take-le n (drop (length p) (key_at ps i)) (omega (arith, c.in-Some.ensures.2, length-drop (length p) (key_at ps i))) in
     let f : First ps (key_at ps i) (length p) a n m = subst (λ (k : Bytes). First ps k (length p) a n m) c.key_at-key.ensures c.shortest-m.ensures in
-    let u : Bytes = c.front.result.now in
-    let ue : take m (drop (length p) (key_at ps i)) ≡ u = sym (c.front.ensures ∙ ap (take m) (c.behind.ensures ∙ ap (drop (length p)) c.key_at-key.ensures)) in
+    let u : Bytes = take (length p + m - length p) (drop (length p) c.key_at-key.result.now) in
+    let ue : take m (drop (length p) (key_at ps i)) ≡ u = ap (λ (x : ℕ). take x (drop (length p) (key_at ps i))) (omega arith) ∙ ap (λ (k : Bytes). take (length p + m - length p) (drop (length p) k)) (sym c.key_at-key.ensures) in
     let e : child_after 400 ps p a (length b) ≡ fitted (length b) (Some u) =
     child_after_of ps p a (length b) (Some u) (sym c.if-not-is_prefix.ensures)
     (next_child_is ps (g.R.PairRun.lawful s).ascends p a i n m c.in-Some.ensures.0 c.in-Some.ensures.1 t c.in-Some.ensures.3 c.in-Some.ensures.4 long f ∙ ap Some ue) in

@@ -24,7 +24,7 @@ returns-then-i-count g c =
     let p : Bytes = c.args.prefix.now in
     let a : Bytes = c.args.after.now in
     let b : Bytes = c.args.buf.now in
-    let e : key_after 400 ps p a (length b) ≡ Ok None = key_after_of ps p a (length b) None (sym c.if-not-is_prefix.ensures) (none_left ps (g.R.PairRun.lawful s).ascends p a c.seek-under.result c.seek-behind.result c.larger-i.result c.seek-under.ensures c.seek-behind.ensures c.larger-i.ensures (omega arith)) in
+    let e : key_after 400 ps p a (length b) ≡ Ok None = key_after_of ps p a (length b) None (sym c.if-not-is_prefix.ensures) (none_left ps (g.R.PairRun.lawful s).ascends p a c.seek-under.result c.seek-behind.result c.max-i.result c.seek-under.ensures c.seek-behind.ensures c.max-i.ensures (omega arith)) in
     record { answers = sym (ap answer e); fills = sym (ap (λ (f : Found). filled f b) e) }
 
 pub returns-then-not-begins_with : goal.returns-then-not-begins_with
@@ -34,8 +34,8 @@ returns-then-not-begins_with g c =
     let p : Bytes = c.args.prefix.now in
     let a : Bytes = c.args.after.now in
     let b : Bytes = c.args.buf.now in
-    let n = none_of (stripped p (key_at ps c.larger-i.result)) (ap (λ (k : Bytes). is_some (stripped p k)) (sym c.key_at-key.ensures) ∙ sym c.if-not-begins_with.ensures) in
-    let e : key_after 400 ps p a (length b) ≡ Ok None = key_after_of ps p a (length b) None (sym c.if-not-is_prefix.ensures) (none_under ps (g.R.PairRun.lawful s).ascends p a c.seek-under.result c.seek-behind.result c.larger-i.result c.seek-under.ensures c.seek-behind.ensures c.larger-i.ensures (omega arith) n) in
+    let n = none_of (stripped p (key_at ps c.max-i.result)) (ap (λ (k : Bytes). is_some (stripped p k)) (sym c.key_at-key.ensures) ∙ sym c.if-not-begins_with.ensures) in
+    let e : key_after 400 ps p a (length b) ≡ Ok None = key_after_of ps p a (length b) None (sym c.if-not-is_prefix.ensures) (none_under ps (g.R.PairRun.lawful s).ascends p a c.seek-under.result c.seek-behind.result c.max-i.result c.seek-under.ensures c.seek-behind.ensures c.max-i.ensures (omega arith) n) in
     record { answers = sym (ap answer e); fills = sym (ap (λ (f : Found). filled f b) e) }
 
 pub returns : goal.returns
@@ -46,6 +46,6 @@ returns g c =
     let a : Bytes = c.args.after.now in
     let b : Bytes = c.args.buf.now in
     let k : Bytes = c.key_at-key.result.now in
-    let n = some_of (stripped p (key_at ps c.larger-i.result)) (ap (λ (x : Bytes). is_some (stripped p x)) (sym c.key_at-key.ensures) ∙ sym c.if-not-begins_with.ensures) in
-    let e : key_after 400 ps p a (length b) ≡ fitted (length b) (Some k) = key_after_of ps p a (length b) (Some k) (sym c.if-not-is_prefix.ensures) (next_here ps (g.R.PairRun.lawful s).ascends p a c.seek-under.result c.seek-behind.result c.larger-i.result c.seek-under.ensures c.seek-behind.ensures c.larger-i.ensures n.0 (omega arith) n.1 ∙ ap Some (sym c.key_at-key.ensures)) in
+    let n = some_of (stripped p (key_at ps c.max-i.result)) (ap (λ (x : Bytes). is_some (stripped p x)) (sym c.key_at-key.ensures) ∙ sym c.if-not-begins_with.ensures) in
+    let e : key_after 400 ps p a (length b) ≡ fitted (length b) (Some k) = key_after_of ps p a (length b) (Some k) (sym c.if-not-is_prefix.ensures) (next_here ps (g.R.PairRun.lawful s).ascends p a c.seek-under.result c.seek-behind.result c.max-i.result c.seek-under.ensures c.seek-behind.ensures c.max-i.ensures n.0 (omega arith) n.1 ∙ ap Some (sym c.key_at-key.ensures)) in
     record { answers = c.hand_out.ensures.answers ∙ sym (ap answer e); fills = c.hand_out.ensures.fills ∙ sym (ap (λ (f : Found). filled f b) e) }

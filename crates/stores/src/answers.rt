@@ -5,7 +5,7 @@ ghost use Rattle.stores.specs.Answers.{fitted, answer, filled};
 use keys::StoreFault;
 
 // Writes a text to the front of the buffer and answers its length; a text longer than the buffer is refused.
-pub(crate) fn hand_out(text: &[u8], buf: &mut [u8]) -> Result<Option<usize>, StoreFault>
+pub fn hand_out(text: &[u8], buf: &mut [u8]) -> Result<Option<usize>, StoreFault>
     ensures answers { result ≡ answer (fitted (length buf.old) (Some text.now)) }
     ensures fills { buf.new ≡ filled (fitted (length buf.old) (Some text.now)) buf.old }
 {
@@ -13,6 +13,6 @@ pub(crate) fn hand_out(text: &[u8], buf: &mut [u8]) -> Result<Option<usize>, Sto
     if n > buf.len() {
         return Err(StoreFault::Longer);
     }
-    buf[0..n].copy_from_slice(text);
+    buf[..n].copy_from_slice(text);
     Ok(Some(n))
 }
