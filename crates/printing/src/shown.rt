@@ -8,17 +8,13 @@ use std::alloc::AllocError;
 pub fn push_shown(out: &mut Vec<u8>, bytes: &[u8]) -> Result<(), AllocError>
     ensures { OnOk result (out.new.items ≡ out.old.items ++ shown bytes.now) }
 {
-    // how many bytes are left of a sequence that has begun
-    let mut inside = 0;
-    for i in 0..bytes.len() {
-        if inside > 0 {
-            out.push(bytes[i])?;
-            inside -= 1;
-        } else {
-            let length = text::sequence_len(bytes, i);
-            push_first(out, bytes[i], length)?;
-            inside = length.saturating_sub(1);
-        }
+    let mut rest = bytes;
+    while let [byte, behind @ ..] = rest {
+        let length = text::sequence_len(rest, 0);
+        push_first(out, *byte, length)?;
+        let (more, next) = behind.split_at(length.saturating_sub(1));
+        out.extend_from_slice(more)?;
+        rest = next;
     }
     Ok(())
 }
