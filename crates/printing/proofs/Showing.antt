@@ -1,10 +1,36 @@
 -- What one sequence adds to what is printed. Assumes nothing.
-use Rattle.std.proofs.Common.{◌≡◌, ℕ, zero, suc, ◌-◌, ◌≤◌, [], ◌∷◌, ◌++◌, length, get_or, take, drop, sym, refl, ap, ◌∙◌, subst, append_assoc, arith}
+use Rattle.std.proofs.Common.{◌≡◌, ℕ, zero, suc, ◌-◌, ◌≤◌, Bool, true, false, cond, ◌&&◌, Option, List, [], ◌∷◌, ◌++◌, length, get_or, take, drop, sym, refl, ap, ◌∙◌, subst, append_assoc, arith}
 use Rattle.std.proofs.lemmas.List.{take_rest}
 use Rattle.text.specs.Bytes.{Bytes}
-use Rattle.text.specs.Utf8.{sequence_length}
-use Rattle.text.proofs.Rows.{sequence_le}
+use Rattle.text.specs.Utf8.{Range, inside, of_row, rows, length_in, sequence_length, unless_zero}
+use borrow.Author.Tests.{clash}
 use Rattle.printing.specs.Shown.{first, shown, shown_in}
+
+-- ---- no sequence is longer than what it stands in
+
+second : (a b : Bool) → (a && b) ≡ true → b ≡ true
+second true b e = e
+second false b e = absurd (clash e)
+
+fit_le : (row : List Range) (t : Bytes) → of_row row (take (length row) t) ≡ true → length row ≤ length t
+fit_le [] t e = omega arith
+fit_le (r ∷ row) [] e = absurd (clash e)
+fit_le (r ∷ row) (b ∷ t) e =
+    let i : length row ≤ length t = fit_le row t (second (inside r b) (of_row row (take (length row) t)) e) in omega arith
+
+length_le : (ms : List (List Range)) (t : Bytes) → length_in ms t ≤ length t
+length_le [] t = omega arith
+length_le (row ∷ more) t = by (of_row row (take (length row) t)) refl (length_le more t)
+  where
+    by : (x : Bool) → of_row row (take (length row) t) ≡ x → length_in more t ≤ length t → cond x (length row) (length_in more t) ≤ length t
+    by true e rest = fit_le row t e
+    by false e rest = rest
+
+sequence_le : (t : Bytes) → sequence_length t ≤ length t
+unfolding sequence_length
+sequence_le t = length_le rows t
+
+-- ---- one sequence more
 
 -- what is left of a sequence stands as it is
 as_is : (k : ℕ) (t : Bytes) → k ≤ length t → shown_in k t ≡ take k t ++ shown (drop k t)
@@ -22,13 +48,13 @@ ends [] n k h e d = absurd (omega arith)
 ends (b ∷ t) n k h e d = let le = sequence_le (b ∷ t) in let whole = ap length (take_rest (b ∷ t) 1) in omega arith
 
 -- a sequence behind what was printed, with what is behind it
-pub one_more : (out begun new s more next : Bytes) (n k : ℕ) → 1 ≤ length s → n ≡ sequence_length s → k ≡ n - 1 → begun ≡ out ++ first n (get_or s 0 0) → more ≡ take k (tail s) → next ≡ drop k (tail s) → new ≡ begun ++ more → new ++ shown next ≡ out ++ shown s
-one_more out begun new [] more next n k h e d f p q g = absurd (omega arith)
-one_more out begun new (b ∷ t) more next n k h e d f p q g =
+pub one_more : (out begun new s more next : Bytes) (o : Option ℕ) (n k : ℕ) → 1 ≤ length s → o ≡ unless_zero (sequence_length s) → n ≡ sequence_length s → k ≡ n - 1 → begun ≡ out ++ first o (get_or s 0 0) → more ≡ take k (tail s) → next ≡ drop k (tail s) → new ≡ begun ++ more → new ++ shown next ≡ out ++ shown s
+one_more out begun new [] more next o n k h i e d f p q g = absurd (omega arith)
+one_more out begun new (b ∷ t) more next o n k h i e d f p q g =
     let whole = take_rest (b ∷ t) 1 in
     let le = subst (λ l. k ≤ length l) whole (ends (b ∷ t) n k h e d) in
     ap (λ l. l ++ shown next) g ∙ append_assoc begun more (shown next)
     ∙ ap (λ l. begun ++ (l ++ shown next)) (p ∙ ap (take k) whole) ∙ ap (λ l. begun ++ (take k t ++ shown l)) (q ∙ ap (drop k) whole)
     ∙ ap (λ l. begun ++ l) (sym (as_is k t le))
-    ∙ ap (λ l. l ++ shown_in k t) f ∙ append_assoc out (first n b) (shown_in k t)
-    ∙ ap (λ m. out ++ (first n b ++ shown_in m t)) d ∙ ap (λ m. out ++ (first m b ++ shown_in (m - 1) t)) e
+    ∙ ap (λ l. l ++ shown_in k t) f ∙ append_assoc out (first o b) (shown_in k t)
+    ∙ ap (λ m. out ++ (first o b ++ shown_in m t)) d ∙ ap (λ m. out ++ (first o b ++ shown_in (m - 1) t)) e ∙ ap (λ m. out ++ (first m b ++ shown_in (sequence_length (b ∷ t) - 1) t)) i

@@ -65,7 +65,7 @@ before-under (x ∷ p) k (y ∷ ys) t h =
     [ true ↦ λ e. before-under p k ys t e | false ↦ λ e. grind arith ]) h
 
 -- ---- heads
-order : (x y : ℕ) → (x < y) ⊎ ((x ≡ y) ⊎ (y < x))
+pub order : (x y : ℕ) → (x < y) ⊎ ((x ≡ y) ⊎ (y < x))
 order x y = by (leb_tells x y) (leb_tells y x)
   where
     by : ((leb x y ≡ true) × (x ≤ y)) ⊎ ((leb x y ≡ false) × (y < x)) → ((leb y x ≡ true) × (y ≤ x)) ⊎ ((leb y x ≡ false) × (x < y)) → (x < y) ⊎ ((x ≡ y) ⊎ (y < x))

@@ -1,6 +1,6 @@
 -- The rows and the scalar values: a sequence of a row encodes one, and the encoding of one is a sequence of a row.
 -- Assumes nothing.
-use Rattle.std.proofs.Common.{◌≡◌, ℕ, ◌+◌, ◌-◌, ◌*◌, ◌/◌, ◌<◌, ◌≤◌, true, false, leb, ◌⊎◌, List, [], ◌∷◌, IsUtf8, sym, refl, ap, ◌∙◌, subst, inl, inr, arith, le-ltb, lt-ltb, le-leb}
+use Rattle.std.proofs.Common.{◌≡◌, ℕ, ◌+◌, ◌-◌, ◌*◌, ◌/◌, ◌<◌, ◌≤◌, true, false, leb, ◌⊎◌, List, [], ◌∷◌, IsUtf8, Ok, Err, is_ok, Result, MatchResult, Bor, sym, refl, ap, ◌∙◌, subst, inl, inr, arith, le-ltb, lt-ltb, le-leb}
 use lib.Utf8.{scalar, scalars, next, encode, encodes, scalar_cases, low_scalar}
 use borrow.Author.Tests.{clash}
 use Rattle.std.proofs.lemmas.Str.{IsUtf8-append, IsUtf8-encode}
@@ -8,6 +8,7 @@ use Rattle.std.proofs.lemmas.Bool.Decides.{leb_tells}
 use Rattle.text.specs.Bytes.{Bytes}
 use Rattle.text.specs.Utf8.{Range, range, inside, rows, of_row, In, Text, is_text}
 use Rattle.text.specs.Utf8.Text.{nothing, sequence}
+use Rattle.text.proofs.Shared.{bools_agree}
 use Rattle.text.proofs.Tables.{row_text_lem, to_text}
 use Rattle.text.proofs.Texts.{both, and, inside_low, is_inside, text_append}
 
@@ -216,3 +217,8 @@ encodes_text (c ∷ cs) e =
 
 pub from_utf8 : (t : Bytes) → IsUtf8 t → is_text t ≡ true
 from_utf8 t u = ap is_text (sym u.1.1) ∙ encodes_text u.0 u.1.0
+
+-- what the library's test answers
+pub tells_text : {E : Type 0} (Q : E → Type 0) (t : Bytes) (r : Result (Bor Bytes) E) → MatchResult r (λ x. (x.now ≡ t) × IsUtf8 t) (λ e. ¬ (IsUtf8 t) × Q e) → is_ok r ≡ is_text t
+tells_text Q t (Ok x) h = sym (from_utf8 t h.1)
+tells_text Q t (Err e) h = bools_agree false (is_text t) (λ f. absurd (clash f)) (λ f. absurd (h.0 (to_utf8 t f)))

@@ -1,6 +1,6 @@
 -- Text: well-formed UTF-8, by the table of well-formed byte sequences in the Unicode Standard (table 3-7).
 -- Assumes nothing.
-use Rattle.std.specs.Prelude.{◌≡◌, ℕ, Bool, true, false, cond, ◌&&◌, ◌⊎◌, List, [], ◌∷◌, ◌++◌, length, take, nat_le}
+use Rattle.std.specs.Prelude.{◌≡◌, ℕ, Bool, true, false, cond, ◌&&◌, ◌⊎◌, List, [], ◌∷◌, ◌++◌, length, take, nat_le, zero, suc, Some, None, Option}
 use Rattle.text.specs.Bytes.{Bytes}
 
 -- bytes from `low` to `high`, both counted in
@@ -76,3 +76,8 @@ length_in (row ∷ more) t = cond (of_row row (take (length row) t)) (length row
 
 unfoldable pub sequence_length : Bytes → ℕ
 sequence_length t = length_in rows t
+
+-- a length that is none where it is 0
+abbrev pub unless_zero : ℕ → Option ℕ
+unless_zero zero = None
+unless_zero (suc n) = Some (suc n)

@@ -10,26 +10,21 @@ pub fn shared_len(a: &[u8], b: &[u8]) -> usize
     ensures shared { take result a.now ≡ take result b.now }
     ensures ends { result < length a.now → result < length b.now → slice_index a.now result ≢ slice_index b.now result }
 {
-    let mut n = 0;
-    while n < a.len() && n < b.len() && a[n] == b[n] {
-        n += 1;
-    }
-    n
+    a.iter().zip(b).take_while(|(x, y)| x == y).count()
 }
 
 // Whether two byte strings are equal.
 pub fn equal(a: &[u8], b: &[u8]) -> bool
     ensures { result ≡ same a.now b.now }
 {
-    let n = shared_len(a, b);
-    (n == a.len()) & (n == b.len())
+    a == b
 }
 
 // Whether the text begins with the prefix.
 pub fn begins_with(text: &[u8], prefix: &[u8]) -> bool
     ensures { result ≡ is_some (stripped prefix.now text.now) }
 {
-    shared_len(text, prefix) == prefix.len()
+    text.starts_with(prefix)
 }
 
 // What a byte counts where two byte strings first differ.
@@ -44,32 +39,15 @@ pub trait ByteRank {
 pub fn compare_by<R: ByteRank>(a: &[u8], b: &[u8]) -> Ordering
     ensures { result ≡ order_by R.ByteRank.ranks a.now b.now }
 {
-    let n = shared_len(a, b);
-    if n == a.len() {
-        return if n == b.len() {
-            Ordering::Equal
-        } else {
-            Ordering::Less
-        };
-    }
-    if n == b.len() {
-        return Ordering::Greater;
-    }
-    if R::rank(a[n]) < R::rank(b[n]) {
-        Ordering::Less
-    } else {
-        Ordering::Greater
-    }
-}
-
-// Each byte by its value.
-pub struct ByValue;
-
-impl ByteRank for ByValue {
-    ghost ranks = { λ b. b };
-
-    fn rank(b: u8) -> u16 {
-        b as u16
+    match a.iter().zip(b).find(|(x, y)| x != y) {
+        None => a.len().cmp(&b.len()),
+        Some((x, y)) => {
+            if R::rank(*x) < R::rank(*y) {
+                Ordering::Less
+            } else {
+                Ordering::Greater
+            }
+        }
     }
 }
 
@@ -77,5 +55,5 @@ impl ByteRank for ByValue {
 pub fn compare(a: &[u8], b: &[u8]) -> Ordering
     ensures { result ≡ byte_order a.now b.now }
 {
-    compare_by::<ByValue>(a, b)
+    a.cmp(&b)
 }

@@ -1,7 +1,9 @@
 // The shape in which every layer reports what it refuses.
-ghost use Rattle.std.specs.Prelude.{◌≡◌};
+ghost use Rattle.std.specs.Prelude.{◌≡◌, Some};
 ghost use Rattle.text.specs.declared.fault.FaultReport.{FaultReport};
-ghost use Rattle.text.specs.Faults.{layer_name};
+ghost use Rattle.text.specs.Faults.{layer_name, fault_text};
+
+use std::fmt;
 
 // The part of the engine that refuses.
 #[derive(Clone, Copy, PartialEq, Eq, Debug)]
@@ -28,12 +30,34 @@ impl Layer {
     }
 }
 
+impl fmt::Display for Layer {
+    ghost output = { λ layer. Some (layer_name layer) };
+
+    fn fmt<W: fmt::Write>(&self, f: &mut fmt::Formatter<W>) -> fmt::Result {
+        let name = self.name();
+        write!(f, "{name}")
+    }
+}
+
 // What is told of a refusal: its number, the layer that refused, and the position it refused at.
 #[derive(Clone, Copy, PartialEq, Eq, Debug)]
 pub struct FaultReport {
     pub number: u16,
     pub layer: Layer,
     pub position: usize,
+}
+
+impl fmt::Display for FaultReport {
+    ghost output = { λ report. Some (fault_text report) };
+
+    fn fmt<W: fmt::Write>(&self, f: &mut fmt::Formatter<W>) -> fmt::Result {
+        let FaultReport {
+            number,
+            layer,
+            position,
+        } = *self;
+        write!(f, "fault {number} {layer} {position}")
+    }
 }
 
 // A refusal of any layer.
