@@ -11,7 +11,7 @@ ghost use Rattle.text.proofs.TotalOrders.{byte_order_total, same_equivalence, sa
 ghost use Rattle.paths.specs.TotalOrders.{path_order_total, same_path_equivalence, same_path_ties};
 
 use crate::found::{Found, Kind, Sight};
-use paths::{NodePath, PathFault};
+use paths::{NodePath, PathFault, is_reserved};
 use std::alloc::{AllocError, Global};
 use std::cmp::Ordering;
 
@@ -91,7 +91,7 @@ impl Ord for Node {
     ghost matches_eq = { λ a b. same_path_ties (names_of a.path) (names_of b.path) };
 
     fn cmp(&self, other: &Node) -> Ordering {
-        self.path.compare(&other.path)
+        self.path.cmp(&other.path)
     }
 }
 
@@ -186,15 +186,6 @@ fn has_reserved(path: &[u8]) -> bool
         }
     }
     false
-}
-
-fn is_reserved(text: &[u8]) -> bool
-    ensures { result ≡ reserved text.now }
-{
-    match text {
-        [b'_', b'_', ..] => true,
-        _ => false,
-    }
 }
 
 // The nodes, and what is passed over, each in the order in which it was found.

@@ -2,8 +2,10 @@
 -- Assumes nothing.
 use Rattle.std.proofs.Common.{◌≡◌, ℕ, ◌+◌, ◌<◌, ◌≤◌, Bool, true, false, cond, not, eqb, [], ◌∷◌, length, get_or, drop, Some, None, Option, sym, refl, ap, ◌∙◌}
 use Rattle.std.proofs.lemmas.List.{drop_more, drop_all}
+use mathlib.Core.Bool.{beq}
+use Rattle.std.specs.Option.{option_eq}
 use Rattle.text.specs.Bytes.{Bytes}
-use Rattle.keys.specs.Keys.{key_form, prefix_form, ends_fresh}
+use Rattle.keys.specs.Keys.{key_form, prefix_form, ends_fresh, form}
 
 -- what the flag and the byte at i say
 ends_here : (f : Bool) (t : Bytes) (i : ℕ) (s : Bool) → i < length t → eqb (get_or t i 0) 47 ≡ s → ends_fresh f (drop i t) ≡ cond s (cond f None (ends_fresh true (drop (i + 1) t))) (ends_fresh false (drop (i + 1) t))
@@ -52,8 +54,23 @@ prefix_answer_lem f (b ∷ t) =
       | false ↦ prefix_answer_lem false t
     ])
 
-pub key_of : (f : Bool) (t : Bytes) (o : Option Bool) → o ≡ ends_fresh f t → key_answer o ≡ key_form f t
+key_of : (f : Bool) (t : Bytes) (o : Option Bool) → o ≡ ends_fresh f t → key_answer o ≡ key_form f t
 key_of f t o e = ap key_answer e ∙ sym (key_answer_lem f t)
 
-pub prefix_of_lem : (f : Bool) (t : Bytes) (o : Option Bool) → o ≡ ends_fresh f t → prefix_answer o ≡ prefix_form f t
+prefix_of_lem : (f : Bool) (t : Bytes) (o : Option Bool) → o ≡ ends_fresh f t → prefix_answer o ≡ prefix_form f t
 prefix_of_lem f t o e = ap prefix_answer e ∙ sym (prefix_answer_lem f t)
+
+-- the answer that is asked for, of either form
+pub form_answer : (trailing : Bool) (t : Bytes) (o : Option Bool) → o ≡ ends_fresh true t → option_eq beq o (Some trailing) ≡ form trailing t
+form_answer true t o e = as_trailing o ∙ prefix_of_lem true t o e
+  where
+    as_trailing : (q : Option Bool) → option_eq beq q (Some true) ≡ prefix_answer q
+    as_trailing None = refl
+    as_trailing (Some true) = refl
+    as_trailing (Some false) = refl
+form_answer false t o e = as_key o ∙ key_of true t o e
+  where
+    as_key : (q : Option Bool) → option_eq beq q (Some false) ≡ key_answer q
+    as_key None = refl
+    as_key (Some true) = refl
+    as_key (Some false) = refl

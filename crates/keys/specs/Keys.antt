@@ -1,6 +1,6 @@
 -- Keys of a store, and prefixes of keys.
 -- Assumes nothing.
-use Rattle.std.specs.Prelude.{Bool, true, false, cond, not, ◌&&◌, [], ◌∷◌, length, Some, None, Ok, Err, Option, Result, ◌==◌, nat_le}
+use Rattle.std.specs.Prelude.{ℕ, Bool, true, false, cond, not, ◌&&◌, [], ◌∷◌, length, Some, None, Ok, Err, Option, Result, ◌==◌, nat_le}
 use Rattle.text.specs.Bytes.{Bytes}
 use Rattle.text.specs.Utf8.{is_text}
 use Rattle.keys.specs.declared.fault.StoreFault.{StoreFault}
@@ -20,6 +20,14 @@ prefix_form fresh (b ∷ t) = cond (b == 47) (cond fresh false (prefix_form true
 abbrev pub ends_fresh : Bool → Bytes → Option Bool
 ends_fresh fresh [] = Some fresh
 ends_fresh fresh (b ∷ t) = cond (b == 47) (cond fresh None (ends_fresh true t)) (ends_fresh false t)
+
+-- either form, and a text of at most n bytes in it: a trailing one ends where a name has to begin
+abbrev pub form : Bool → Bytes → Bool
+form true t = prefix_form true t
+form false t = key_form true t
+
+abbrev pub well_formed : ℕ → Bool → Bytes → Bool
+well_formed n trailing t = form trailing t && (nat_le (length t) n && is_text t)
 
 -- A key has 1 to 400 bytes of text, no `/` at either end and no `//`.
 abbrev pub is_key : Bytes → Bool

@@ -13,49 +13,18 @@ use paths::{Inline, NodePath};
 pub fn meta_key(path: &NodePath, file: MetadataFile) -> StoreKey
     ensures { key_text result ≡ metadata_key (names_of path.now) file }
 {
-    match behind_prefix(path, file.name()) {
-        Some(text) => StoreKey { text },
-        None => unreachable(),
-    }
-}
-
-// The key of version 3 metadata, `zarr.json`.
-pub fn meta_key_v3(path: &NodePath) -> StoreKey
-    ensures { key_text result ≡ metadata_key (names_of path.now) MetadataFile.ZarrJson }
-{
-    meta_key(path, MetadataFile::ZarrJson)
-}
-
-// The key of version 2 array metadata, `.zarray`.
-pub fn meta_key_v2_array(path: &NodePath) -> StoreKey
-    ensures { key_text result ≡ metadata_key (names_of path.now) MetadataFile.Zarray }
-{
-    meta_key(path, MetadataFile::Zarray)
-}
-
-// The key of version 2 group metadata, `.zgroup`.
-pub fn meta_key_v2_group(path: &NodePath) -> StoreKey
-    ensures { key_text result ≡ metadata_key (names_of path.now) MetadataFile.Zgroup }
-{
-    meta_key(path, MetadataFile::Zgroup)
-}
-
-// The key of version 2 attributes, `.zattrs`.
-pub fn meta_key_v2_attributes(path: &NodePath) -> StoreKey
-    ensures { key_text result ≡ metadata_key (names_of path.now) MetadataFile.Zattrs }
-{
-    meta_key(path, MetadataFile::Zattrs)
+    let text = behind_prefix(path, file.name()).unwrap();
+    StoreKey { text }
 }
 
 // The key of an array's chunk: the path without its first `/`, then `/` and the chunk's own key.
 pub fn data_key(path: &NodePath, chunk_key: &[u8]) -> Result<StoreKey, StoreFault>
     ensures { key_in result ≡ data_key (names_of path.now) chunk_key.now }
 {
-    let key: Option<Inline<400>> = behind_prefix(path, chunk_key);
-    match key {
-        Some(text) => StoreKey::new(text.as_bytes()),
-        None => Err(StoreFault::Malformed),
-    }
+    let Some(key) = behind_prefix::<400>(path, chunk_key) else {
+        return Err(StoreFault::Malformed);
+    };
+    StoreKey::new(key.as_bytes())
 }
 
 // A path's prefix and a text behind it, or none if they are longer than N bytes.

@@ -10,9 +10,7 @@ mod store_key;
 
 pub use fault::StoreFault;
 pub use file::MetadataFile;
-pub use key::{
-    data_key, meta_key, meta_key_v2_array, meta_key_v2_attributes, meta_key_v2_group, meta_key_v3,
-};
+pub use key::{data_key, meta_key};
 pub use laws::{
     examples_hold, key_and_prefix_forms, keys_differ, keys_under_prefix, path_keys_are_keys,
 };

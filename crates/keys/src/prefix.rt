@@ -12,19 +12,16 @@ use paths::{NodePath, PathFault};
 pub fn prefix_of(path: &NodePath) -> StorePrefix
     ensures { prefix_text result ≡ prefix_of (names_of path.now) }
 {
-    match behind_prefix(path, b"") {
-        Some(text) => StorePrefix { text },
-        None => unreachable(),
-    }
+    let text = behind_prefix(path, b"").unwrap();
+    StorePrefix { text }
 }
 
 // The path whose prefix this is: `/` for the empty one.
 pub fn path_of_prefix(prefix: &StorePrefix) -> Result<NodePath, PathFault>
     ensures { path_in result ≡ path_of_prefix (prefix_text prefix.now) }
 {
-    let text = prefix.as_bytes();
-    if text.is_empty() {
-        return Ok(NodePath::root());
+    match prefix.as_bytes() {
+        [] => Ok(NodePath::root()),
+        [names @ .., _] => NodePath::root().join(names),
     }
-    NodePath::root().join(&text[0..text.len() - 1])
 }

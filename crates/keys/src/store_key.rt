@@ -8,6 +8,8 @@ mod prefix;
 pub use make::{is_key, is_prefix};
 use paths::Inline;
 
+// Kept: two types, since a struct with a ghost field takes no `bool` const parameter, and that is what they would differ by.
+
 // A key: 1 to 400 bytes of text, no `/` at either end and no `//`.
 #[derive(Clone, Copy)]
 pub struct StoreKey {

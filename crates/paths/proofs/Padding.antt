@@ -1,20 +1,39 @@
 -- Parts laid one after the other into an array of zeros.
 -- Assumes nothing.
-use Rattle.std.proofs.Common.{◌≡◌, ℕ, zero, suc, ◌+◌, ◌-◌, ◌<◌, ◌≤◌, true, [], ◌∷◌, ◌++◌, length, get_or, take, drop, set, replicate, sym, refl, ap, ◌∙◌, append_assoc, arith, length-append, length-drop, take_at, drop_at}
+use Rattle.std.proofs.Common.{◌≡◌, ℕ, zero, suc, ◌+◌, ◌-◌, ◌≤◌, true, ◌++◌, length, take, drop, replicate, sym, refl, ap, ◌∙◌, append_assoc, arith, length-append, length-drop, drop-drop, take_at, drop_at}
 use lib.ListN.{length-replicate}
-use lib.Seq.{set_at}
-use Rattle.std.proofs.lemmas.List.{drop-replicate, take_more, drop_more, length-take-le}
+use borrow.Rule.Slice.PartMut.{put_mid}
+use Rattle.std.proofs.lemmas.List.{drop-replicate}
 use Rattle.text.specs.Bytes.{Bytes}
 use Rattle.paths.specs.Held.{all_zero}
 
--- one byte more
-pub one_laid : (w z : Bytes) (i : ℕ) → i < length w → i < length z → set (take i w ++ drop i z) i (get_or w i 0) ≡ take (i + 1) w ++ drop (i + 1) z
-one_laid w z i hw hz =
-    let n : length (take i w) ≡ i = length-take-le i w (omega arith) in
-    ap (λ (u : Bytes). set (take i w ++ u) i (get_or w i 0)) (drop_more z i 0 hz)
-    ∙ set_at (take i w) (get_or z i 0) (drop (i + 1) z) (get_or w i 0) i n
-    ∙ sym (append_assoc (take i w) (get_or w i 0 ∷ []) (drop (i + 1) z))
-    ∙ ap (λ (u : Bytes). u ++ drop (i + 1) z) (sym (take_more w i 0 hw))
+-- a part written behind the front of an array
+lay : (w y z : Bytes) (n k : ℕ) → length w ≡ n → length y ≡ k → put_mid n k (w ++ z) y ≡ (w ++ y) ++ drop k z
+lay w y z n k e f =
+    ap (λ (u : Bytes). u ++ (y ++ drop k (drop n (w ++ z)))) (take_at w z n e) ∙ ap (λ (u : Bytes). w ++ (y ++ drop k u)) (drop_at w z n e)
+    ∙ sym (append_assoc w y (drop k z))
+
+-- three parts, each copied behind the one before
+module _ (a b c x y w z : Bytes) (ex : x ≡ a) (ey : y ≡ b) (ew : w ≡ c) where
+  first_two : put_mid (length a) (length a + length b - length a) (x ++ drop (length a) z) y ≡ (a ++ b) ++ drop (length a + length b) z
+  first_two =
+      let k : length a + length b - length a ≡ length b = omega arith in
+      ap (λ (u : Bytes). put_mid (length a) (length a + length b - length a) (u ++ drop (length a) z) y) ex
+      ∙ ap (put_mid (length a) (length a + length b - length a) (a ++ drop (length a) z)) ey
+      ∙ lay a b (drop (length a) z) (length a) (length a + length b - length a) refl (sym k)
+      ∙ ap (λ (n : ℕ). (a ++ b) ++ drop n (drop (length a) z)) k
+      ∙ ap (λ (u : Bytes). (a ++ b) ++ u) (drop-drop (length b) (length a) z)
+
+  pub laid : put_mid (length a + length b) (length a + length b + length c - (length a + length b)) (put_mid (length a) (length a + length b - length a) (x ++ drop (length a) z) y) w ≡ (a ++ (b ++ c)) ++ drop (length a + length b + length c) z
+  laid =
+      let n : ℕ = length a + length b in
+      let k : n + length c - n ≡ length c = omega arith in
+      ap (λ (u : Bytes). put_mid n (n + length c - n) u w) first_two
+      ∙ ap (put_mid n (n + length c - n) ((a ++ b) ++ drop n z)) ew
+      ∙ lay (a ++ b) c (drop n z) n (n + length c - n) (length-append a b) (sym k)
+      ∙ ap (λ (m : ℕ). ((a ++ b) ++ c) ++ drop m (drop n z)) k
+      ∙ ap (λ (u : Bytes). ((a ++ b) ++ c) ++ u) (drop-drop (length c) n z)
+      ∙ ap (λ (u : Bytes). u ++ drop (n + length c) z) (append_assoc a b c)
 
 pub three_long : (a b c : Bytes) → length (a ++ (b ++ c)) ≡ length a + length b + length c
 three_long a b c = simp length-append (omega arith)

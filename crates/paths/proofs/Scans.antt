@@ -1,90 +1,63 @@
--- Turns of the loops over a text's bytes and names.
+-- What the library's scans of a text say of its names, slashes and periods.
 -- Assumes nothing.
-use Rattle.std.proofs.Common.{◌≡◌, ℕ, zero, suc, ◌+◌, ◌-◌, ◌<◌, ◌≤◌, Bool, true, false, not, ◌&&◌, eqb, leb, ◌⊎◌, List, [], ◌∷◌, ◌++◌, length, get_or, take, drop, sym, refl, ap, ◌∙◌, inl, inr, append-nil, arith, length-drop, take-append-drop, drop-drop, eq-eqb, ne_eqb}
-use Rattle.std.proofs.lemmas.Bool.Decides.{leb_tells}
-use Rattle.std.proofs.lemmas.List.{drop_more, drop_all, take_more, get_or-drop}
+use Rattle.std.proofs.Common.{◌≡◌, ℕ, zero, suc, ◌+◌, ◌<◌, ◌≤◌, true, false, not, cond, ◌&&◌, ◌||◌, eqb, List, [], ◌∷◌, ◌++◌, map, length, get_or, take, drop, is_some, Some, None, Err, Option, Bor, MatchOption, sym, refl, ap, ◌∙◌, arith, length-drop, ne_eqb}
+use Rattle.std.proofs.lemmas.List.{get_or-drop}
 use Rattle.std.proofs.lemmas.Bool.{and_parts, and_from}
+use borrow.Author.Tests.{clash}
+use Rattle.std.specs.Cmp.Lexicographic.{pointwise}
+use Rattle.std.specs.List.{list_any, list_all, slice_split, onto_first}
 use Rattle.text.specs.Bytes.{Bytes}
 use Rattle.paths.specs.Names.{no_slash, only_periods, is_name}
-use Rattle.paths.specs.Paths.{are_names, split}
-use Rattle.paths.proofs.Splits.{split_name, split_more}
+use Rattle.paths.specs.Paths.{Path, Name, are_names, onto, split, extended, path_of}
+use Rattle.paths.specs.declared.fault.PathFault.TheVariants.{Invalid}
 
--- ---- periods
+pub no_slash_is : (t : Bytes) → not (list_any (λ b. eqb b 47) t) ≡ no_slash t
+no_slash_is [] = refl
+no_slash_is (b ∷ t) = elim (eqb b 47) as (λ x. not (x || list_any (λ c. eqb c 47) t) ≡ (not x && no_slash t)) [ true ↦ refl | false ↦ no_slash_is t ]
 
-pub period_here : (t : Bytes) (i : ℕ) → i < length t → get_or t i 0 ≡ 46 → only_periods (drop i t) ≡ only_periods (drop (i + 1) t)
-period_here t i h e = rw (drop_more t i 0 h, e) refl
+pub periods_is : (t : Bytes) → list_all (λ b. eqb b 46) t ≡ only_periods t
+periods_is [] = refl
+periods_is (b ∷ t) = ap (λ x. eqb b 46 && x) (periods_is t)
 
-pub period_missing : (t : Bytes) (i : ℕ) → i < length t → (get_or t i 0 ≡ 46 → ⊥) → only_periods (drop i t) ≡ false
-period_missing t i h e = rw (drop_more t i 0 h, ne_eqb (get_or t i 0) 46 e) refl
+plain_all : (t : Bytes) → ((k : ℕ) → k < length t → get_or t k 0 ≡ 47 → ⊥) → no_slash t ≡ true
+plain_all [] f = refl
+plain_all (b ∷ t) f =
+    and_from (not (eqb b 47)) (no_slash t) (ap not (ne_eqb b 47 (f zero (omega arith)))) (plain_all t (λ k h. f (suc k) (omega arith)))
 
-pub periods_all : (t : Bytes) (i : ℕ) → length t ≤ i → only_periods (drop i t) ≡ true
-periods_all t i h = rw (drop_all i t h) refl
+-- a text has no `/` from an index on
+pub plain_from : (t : Bytes) (i : ℕ) → ((k : ℕ) → i ≤ k → k < length t → get_or t k 0 ≡ 47 → ⊥) → no_slash (drop i t) ≡ true
+plain_from t i f =
+    plain_all (drop i t) (λ k h e. f (i + k) (omega arith) (omega (arith, length-drop i t)) (sym (get_or-drop i t k 0) ∙ e))
 
--- ---- slashes
+-- what `strip_prefix` leaves of a text that begins with `/`
+pub slash_stripped : (t : Bytes) (r : Option (Bor Bytes)) → MatchOption r (pointwise eqb (take 1 t) (47 ∷ []) ≡ false) (λ x. (pointwise eqb (take 1 t) (47 ∷ []) ≡ true) × (x.now ≡ drop 1 t) × (length x.now + 1 ≡ length t)) → (names : Bor Bytes) → r ≡ Some names → path_of t ≡ extended [] names.now
+slash_stripped t None h names e = absurd (clash (ap is_some e))
+slash_stripped [] (Some x) h names e = absurd (omega (arith, h.2))
+slash_stripped (b ∷ t) (Some x) h names e =
+    let begins : eqb b 47 ≡ true = (and_parts (eqb b 47) true h.0).0 in
+    let same : x ≡ names = cc in
+    ap (λ z. cond z (extended [] t) (Err Invalid)) begins ∙ ap (extended []) (sym h.1) ∙ ap (λ (y : Bor Bytes). extended [] y.now) same
 
-plain_append : (a b : Bytes) → no_slash a ≡ true → no_slash b ≡ true → no_slash (a ++ b) ≡ true
-plain_append [] b ha hb = hb
-plain_append (x ∷ a) b ha hb = let p = and_parts (not (eqb x 47)) (no_slash a) ha in and_from (not (eqb x 47)) (no_slash (a ++ b)) p.0 (plain_append a b p.1 hb)
+-- ---- the names between slashes
+onto_is : (b : ℕ) (p : List Bytes) → onto_first b p ≡ onto b p
+onto_is b [] = refl
+onto_is b (n ∷ p) = refl
 
-plain_byte : (b : ℕ) → (b ≡ 47 → ⊥) → no_slash (b ∷ []) ≡ true
-plain_byte b h = rw (ne_eqb b 47 h) refl
+pub split_is : (t : Bytes) → slice_split (λ b. eqb b 47) t ≡ split t
+split_is [] = refl
+split_is (b ∷ t) =
+    ap (λ p. cond (eqb b 47) ([] ∷ p) (onto_first b p)) (split_is t) ∙ ap (cond (eqb b 47) ([] ∷ split t)) (onto_is b (split t))
 
--- one byte more that is no `/`
-pub plain_more : (t : Bytes) (at i : ℕ) → at ≤ i → i < length t → no_slash (take (i - at) (drop at t)) ≡ true → (get_or t i 0 ≡ 47 → ⊥) → no_slash (take (i + 1 - at) (drop at t)) ≡ true
-plain_more t at i ha hi p n =
-    let e : i + 1 - at ≡ (i - at) + 1 = omega arith in
-    let f : at + (i - at) ≡ i = omega arith in
-    let g : get_or (drop at t) (i - at) 0 ≡ get_or t i 0 = get_or-drop at t (i - at) 0 ∙ ap (λ (k : ℕ). get_or t k 0) f in
-    let l : i - at < length (drop at t) = simp length-drop (omega arith) in
-    ap (λ (k : ℕ). no_slash (take k (drop at t))) e ∙ ap no_slash (take_more (drop at t) (i - at) 0 l)
-    ∙ plain_append (take (i - at) (drop at t)) (get_or (drop at t) (i - at) 0 ∷ []) p (plain_byte (get_or (drop at t) (i - at) 0) (λ q. n (sym g ∙ q)))
+pub names_push : (p : List (Bor Bytes)) (n : Bor Bytes) → are_names (map (λ (m : Bor Bytes). m.now) p) ≡ true → is_name n.now ≡ true → are_names (map (λ (m : Bor Bytes). m.now) (p ++ (n ∷ []))) ≡ true
+names_push [] n h e = and_from (is_name n.now) true e refl
+names_push (m ∷ p) n h e =
+    let w = and_parts (is_name m.now) (are_names (map (λ (m : Bor Bytes). m.now) p)) h in
+    and_from (is_name m.now) (are_names (map (λ (m : Bor Bytes). m.now) (p ++ (n ∷ [])))) w.0 (names_push p n w.1 e)
 
-pub plain_back : (t : Bytes) (i : ℕ) → i < length t → no_slash (drop (i + 1) t) ≡ true → (get_or t i 0 ≡ 47 → ⊥) → no_slash (drop i t) ≡ true
-plain_back t i h p n = ap no_slash (drop_more t i 0 h) ∙ and_from (not (eqb (get_or t i 0) 47)) (no_slash (drop (i + 1) t)) (ap not (ne_eqb (get_or t i 0) 47 n)) p
-
-pub not_plain : (t : Bytes) (i : ℕ) → i < length t → get_or t i 0 ≡ 47 → no_slash t ≡ false
-not_plain [] i h e = absurd (omega arith)
-not_plain (b ∷ t) zero h e = rw (eq-eqb b 47 e) refl
-not_plain (b ∷ t) (suc i) h e =
-    let k : no_slash t ≡ false = not_plain t i (omega arith) e in
-    (elim (eqb b 47) as (λ x. (not x && no_slash t) ≡ false) [ true ↦ refl | false ↦ k ])
-
--- ---- names between slashes: the part from `at` to `end`
-
-part_whole : (t : Bytes) (at end : ℕ) → at ≤ end → drop at t ≡ take (end - at) (drop at t) ++ drop end t
-part_whole t at end h =
-    let f : at + (end - at) ≡ end = omega arith in
-    sym (ap (λ (u : Bytes). take (end - at) (drop at t) ++ u) (sym (drop-drop (end - at) at t ∙ ap (λ (k : ℕ). drop k t) f)) ∙ take-append-drop (end - at) (drop at t))
-
-pub last_part : (t : Bytes) (at end : ℕ) → at ≤ end → length t ≤ end → no_slash (take (end - at) (drop at t)) ≡ true → split (drop at t) ≡ take (end - at) (drop at t) ∷ []
-last_part t at end h l p =
-    let e : drop at t ≡ take (end - at) (drop at t) = part_whole t at end h ∙ ap (λ (u : Bytes). take (end - at) (drop at t) ++ u) (drop_all end t l) ∙ append-nil (take (end - at) (drop at t)) in
-    ap split e ∙ split_name (take (end - at) (drop at t)) p
-
-pub more_parts : (t : Bytes) (at end : ℕ) → at ≤ end → end < length t → get_or t end 0 ≡ 47 → no_slash (take (end - at) (drop at t)) ≡ true
-    → split (drop at t) ≡ take (end - at) (drop at t) ∷ split (drop (end + 1) t)
-more_parts t at end h l s p =
-    let e : drop at t ≡ take (end - at) (drop at t) ++ (47 ∷ drop (end + 1) t) =
-    part_whole t at end h ∙ ap (λ (u : Bytes). take (end - at) (drop at t) ++ u) (drop_more t end 0 l ∙ ap (λ (b : ℕ). b ∷ drop (end + 1) t) s) in
-    ap split e ∙ split_more (take (end - at) (drop at t)) (drop (end + 1) t) p
-
-pub split_here : (t : Bytes) (at end : ℕ) → at ≤ end → end ≤ length t → no_slash (take (end - at) (drop at t)) ≡ true → (end < length t → get_or t end 0 ≡ 47)
-    → (q : List Bytes) × (split (drop at t) ≡ take (end - at) (drop at t) ∷ q)
-split_here t at end h l p s = by (leb_tells (length t) end)
-  where
-    by : ((leb (length t) end ≡ true) × (length t ≤ end)) ⊎ ((leb (length t) end ≡ false) × (end < length t)) → (q : List Bytes) × (split (drop at t) ≡ take (end - at) (drop at t) ∷ q)
-    by (inl g) = ([], last_part t at end h g.1 p)
-    by (inr g) = (split (drop (end + 1) t), more_parts t at end h g.1 (s g.1) p)
-
--- a text whose first part is no name, whose only part is one, and whose first of several is one
-names_by : (p : List Bytes) (n : Bytes) (q : List Bytes) (b : Bool) → p ≡ n ∷ q → is_name n ≡ b → are_names p ≡ (b && are_names q)
-names_by p n q b e h = ap are_names e ∙ ap (λ (x : Bool). x && are_names q) h
-
-pub names_refused : (p : List Bytes) (n : Bytes) (q : List Bytes) → p ≡ n ∷ q → is_name n ≡ false → are_names p ≡ false
-names_refused p n q e h = names_by p n q false e h
-
-pub names_only : (p : List Bytes) (n : Bytes) → p ≡ n ∷ [] → is_name n ≡ true → are_names p ≡ true
-names_only p n e h = names_by p n [] true e h
-
-pub names_first : (p : List Bytes) (n : Bytes) (q : List Bytes) → p ≡ n ∷ q → is_name n ≡ true → are_names p ≡ are_names q
-names_first p n q e h = names_by p n q true e h
+-- one name that is unlawful
+pub unlawful : (p : Path) (k : ℕ) (n : Name) → k < length p → n ≡ get_or p k n → is_name n ≡ false → are_names p ≡ false
+unlawful [] k n h e f = absurd (omega arith)
+unlawful (m ∷ p) zero n h e f = ap (λ x. is_name x && are_names p) (sym e) ∙ ap (λ x. x && are_names p) f
+unlawful (m ∷ p) (suc k) n h e f =
+    let i = unlawful p k n (omega arith) e f in
+    elim (is_name m) as (λ x. (x && are_names p) ≡ false) [ true ↦ i | false ↦ refl ]

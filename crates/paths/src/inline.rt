@@ -1,7 +1,9 @@
-// A byte string of at most N bytes, kept in place; the bytes behind it are zero, so equal texts are equal values.
+// Byte strings of a fixed size in memory.
 ghost use Rattle.std.specs.Prelude.{◌≡◌, ◌+◌, ◌<◌, ◌≤◌, true, ◌++◌, length, take, drop, replicate, MatchOption, slice_index};
 ghost use Rattle.paths.specs.Held.{all_zero};
 
+// A byte string of at most N bytes, kept in place; the bytes behind it are zero, so equal texts are equal values.
+// Kept: no heap in the engine, and a path has the same size wherever it lies, so the length lies beside the bytes.
 #[derive(Clone, Copy)]
 pub struct Inline<const N: usize> {
     pub(crate) bytes: [u8; N],
@@ -31,7 +33,7 @@ impl<const N: usize> Inline<N> {
         ensures { result.now ≡ take self.now.len self.now.bytes }
     {
         let all = &self.bytes[..];
-        &all[0..self.len]
+        &all[..self.len]
     }
 }
 
@@ -40,25 +42,13 @@ fn filled<const N: usize>(front: &[u8], middle: &[u8], back: &[u8]) -> [u8; N]
     requires { length front.now + length middle.now + length back.now ≤ N }
     ensures { result ≡ (front.now ++ (middle.now ++ back.now)) ++ drop (length front.now + length middle.now + length back.now) (replicate N 0) }
 {
-    let len = front.len() + middle.len() + back.len();
+    let middle_at = front.len();
+    let back_at = middle_at + middle.len();
+    let end = back_at + back.len();
     let mut bytes = [0u8; N];
-    for i in 0..len {
-        bytes[i] = byte_at(front, middle, back, i);
-    }
+    let all = &mut bytes[..];
+    all[..middle_at].copy_from_slice(front);
+    all[middle_at..back_at].copy_from_slice(middle);
+    all[back_at..end].copy_from_slice(back);
     bytes
-}
-
-// The byte at an index of the three parts one after the other.
-fn byte_at(front: &[u8], middle: &[u8], back: &[u8], i: usize) -> u8
-    requires { i < length front.now + length middle.now + length back.now }
-    ensures { result ≡ slice_index (front.now ++ (middle.now ++ back.now)) i }
-{
-    if i < front.len() {
-        return front[i];
-    }
-    let j = i - front.len();
-    if j < middle.len() {
-        return middle[j];
-    }
-    back[j - middle.len()]
 }

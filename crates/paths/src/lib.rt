@@ -16,6 +16,6 @@ pub use laws::{
     reads_what_is_spelled, same_names_same_memory, splitting_undoes_writing,
     texts_compare_as_paths,
 };
-pub use node_name::NodeName;
+pub use node_name::{NodeName, is_reserved};
 pub use node_path::NodePath;
 pub use path_row::PathRow;

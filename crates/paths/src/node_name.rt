@@ -6,10 +6,11 @@ use crate::fault::PathFault;
 use crate::slashes::is_plain;
 use text::is_text;
 
-// A lawful name, in the text that it was made from. Only `new` makes one.
+// A lawful name, in the text that it was made from.
 #[derive(Clone, Copy)]
 pub struct NodeName<'a> {
     text: &'a [u8],
+    ghost lawful: { is_name text.now ≡ true },
 }
 
 impl<'a> NodeName<'a> {
@@ -35,26 +36,19 @@ impl NodeName<'_> {
     pub fn validate(text: &[u8]) -> bool
         ensures { result ≡ is_name text.now }
     {
-        is_text(text) & (is_plain(text) & (!is_reserved(text) & !is_only_periods(text)))
+        is_text(text) && is_plain(text) && !is_reserved(text) && !is_only_periods(text)
     }
 }
 
-fn is_reserved(text: &[u8]) -> bool
+// Whether a text begins with `__`, as no name may.
+pub fn is_reserved(text: &[u8]) -> bool
     ensures { result ≡ reserved text.now }
 {
-    match text {
-        [b'_', b'_', ..] => true,
-        _ => false,
-    }
+    text.starts_with(b"__")
 }
 
 fn is_only_periods(text: &[u8]) -> bool
     ensures { result ≡ only_periods text.now }
 {
-    for b in text {
-        if *b != b'.' {
-            return false;
-        }
-    }
-    true
+    text.iter().all(|b| *b == b'.')
 }

@@ -6,6 +6,7 @@ ghost use Rattle.paths.specs.Values.{path_in, row_text};
 use crate::fault::PathFault;
 use crate::node_path::NodePath;
 
+// Kept: no heap in the engine, and a row has the same size wherever it lies, so the length lies beside the bytes.
 #[derive(Clone, Copy)]
 pub struct PathRow {
     pub bytes: [u8; 255],
@@ -17,13 +18,17 @@ impl PathRow {
     pub fn as_bytes(&self) -> &[u8]
         ensures { result.now ≡ row_text self.now }
     {
-        &self.bytes[0..self.len as usize]
+        &self.bytes[..self.len as usize]
     }
+}
 
-    // The path that the row holds, if it holds one.
-    pub fn path(&self) -> Result<NodePath, PathFault>
-        ensures { path_in result ≡ path_of (row_text self.now) }
-    {
-        NodePath::new(self.as_bytes())
+// The path that a row holds, if it holds one.
+impl TryFrom<&PathRow> for NodePath {
+    type Error = PathFault;
+
+    ghost try_from_gives = { λ row result. path_in result ≡ path_of (row_text row.now) };
+
+    fn try_from(row: &PathRow) -> Result<NodePath, PathFault> {
+        NodePath::new(row.as_bytes())
     }
 }

@@ -13,6 +13,8 @@ pub fn shared_len(a: &[u8], b: &[u8]) -> usize
     a.iter().zip(b).take_while(|(x, y)| x == y).count()
 }
 
+// Kept: `equal`, `begins_with` and `compare` call the library's methods and say what they answer in the words of specs/Bytes, which the contracts of the crates above are written in.
+
 // Whether two byte strings are equal.
 pub fn equal(a: &[u8], b: &[u8]) -> bool
     ensures { result ≡ same a.now b.now }

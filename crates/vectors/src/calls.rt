@@ -1,6 +1,6 @@
 // The calls that vectors name, and their answers as text.
-use keys::{StoreFault, StoreKey, StorePrefix};
-use paths::{NodeName, NodePath, PathFault};
+use keys::{MetadataFile, StoreFault, StoreKey, StorePrefix};
+use paths::{NodeName, NodePath, PathFault, PathRow};
 use std::alloc::{AllocError, Global};
 use std::cmp::Ordering;
 use text::Fault;
@@ -108,16 +108,16 @@ fn join(base: &[u8], relative: &[u8]) -> Result<NodePath, PathFault> {
 }
 
 fn through_row(path: &[u8]) -> Result<NodePath, PathFault> {
-    NodePath::new(path)?.row().path()
+    NodePath::try_from(&PathRow::from(&NodePath::new(path)?))
 }
 
 fn meta_key(file: &[u8], path: &[u8]) -> Result<StoreKey, Refusal> {
     let path = NodePath::new(path)?;
     Ok(match file {
-        b"v3" => keys::meta_key_v3(&path),
-        b"array" => keys::meta_key_v2_array(&path),
-        b"group" => keys::meta_key_v2_group(&path),
-        _ => keys::meta_key_v2_attributes(&path),
+        b"v3" => keys::meta_key(&path, MetadataFile::ZarrJson),
+        b"array" => keys::meta_key(&path, MetadataFile::Zarray),
+        b"group" => keys::meta_key(&path, MetadataFile::Zgroup),
+        _ => keys::meta_key(&path, MetadataFile::Zattrs),
     })
 }
 
@@ -176,5 +176,5 @@ fn compare(heap: Global, a: &[u8], b: &[u8]) -> Result<Vec<u8>, AllocError> {
 }
 
 fn ordering(a: &[u8], b: &[u8]) -> Result<Ordering, PathFault> {
-    Ok(NodePath::new(a)?.compare(&NodePath::new(b)?))
+    Ok(NodePath::new(a)?.cmp(&NodePath::new(b)?))
 }

@@ -4,21 +4,15 @@ ghost use Rattle.keys.specs.Keys.{prefix_or_fault};
 ghost use Rattle.keys.specs.Values.{prefix_text, prefix_in};
 
 use super::StorePrefix;
-use super::make::is_prefix;
+use super::make::held;
 use crate::fault::StoreFault;
-use paths::Inline;
 
 impl StorePrefix {
     pub fn new(text: &[u8]) -> Result<StorePrefix, StoreFault>
         ensures { prefix_in result ≡ prefix_or_fault text.now }
     {
-        if !is_prefix(text) {
-            return Err(StoreFault::Malformed);
-        }
-        match Inline::of(text, b"", b"") {
-            Some(text) => Ok(StorePrefix { text }),
-            None => Err(StoreFault::Malformed),
-        }
+        let text = held(text, true)?;
+        Ok(StorePrefix { text })
     }
 
     pub fn as_bytes(&self) -> &[u8]

@@ -7,15 +7,14 @@ ghost use Rattle.paths.specs.Values.{names_of, row_text};
 use super::NodePath;
 use crate::path_row::PathRow;
 
-impl NodePath {
-    // The path's text, with zeros behind it.
-    pub fn row(&self) -> PathRow
-        ensures text { row_text result ≡ rendered (names_of self.now) }
-        ensures clean { all_zero (drop result.len result.bytes) ≡ true }
-    {
+// The path's text, with zeros behind it.
+impl From<&NodePath> for PathRow {
+    ghost from_gives = { λ path row. (row_text row ≡ rendered (names_of path.now)) × (all_zero (drop row.len row.bytes) ≡ true) };
+
+    fn from(path: &NodePath) -> PathRow {
         PathRow {
-            bytes: self.text.bytes,
-            len: self.text.len as u8,
+            bytes: path.text.bytes,
+            len: path.text.len as u8,
         }
     }
 }

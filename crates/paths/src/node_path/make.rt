@@ -7,7 +7,6 @@ use super::NodePath;
 use crate::fault::PathFault;
 use crate::inline::Inline;
 use crate::node_name::NodeName;
-use crate::slashes::next_slash;
 
 const MAX_NAMES: usize = 32;
 
@@ -16,20 +15,15 @@ impl NodePath {
     pub fn root() -> NodePath
         ensures { names_of result ≡ [] }
     {
-        match build(b"/", b"", b"", 0) {
-            Ok(path) => path,
-            Err(_) => unreachable(),
-        }
+        build(b"/", b"", b"", 0).unwrap()
     }
 
     // The path that a text spells.
     pub fn new(text: &[u8]) -> Result<NodePath, PathFault>
         ensures { path_in result ≡ path_of text.now }
     {
-        if text.is_empty() || text[0] != b'/' {
-            return Err(PathFault::Invalid);
-        }
-        NodePath::root().extend(&text[1..])
+        let names = text.strip_prefix(b"/").ok_or(PathFault::Invalid)?;
+        NodePath::root().extend(names)
     }
 
     // The path with the names of a text behind its own; one leading `/` of the text is dropped.
@@ -53,9 +47,7 @@ impl NodePath {
     fn with_names(&self, names: &[u8]) -> Result<NodePath, PathFault>
         ensures { path_in result ≡ checked (split names.now) (names_of self.now ++ split names.now) }
     {
-        let Some(count) = count_names(names) else {
-            return Err(PathFault::Invalid);
-        };
+        let count = count_names(names).ok_or(PathFault::Invalid)?;
         if count > MAX_NAMES - self.names {
             return Err(PathFault::OverLimits);
         }
@@ -104,26 +96,18 @@ fn count_names(text: &[u8]) -> Option<usize>
     ensures { result ≡ (if are_names (split text.now) then Some (length (split text.now)) else None) }
 {
     let mut count = 0;
-    let mut at = 0;
-    loop {
-        let end = next_slash(text, at);
-        if !NodeName::validate(&text[at..end]) {
+    for name in text.split(|b| *b == b'/') {
+        if !NodeName::validate(name) {
             return None;
         }
         count += 1;
-        if end == text.len() {
-            return Some(count);
-        }
-        at = end + 1;
     }
+    Some(count)
 }
 
 // A text without one leading `/`.
 fn without_slash(text: &[u8]) -> &[u8]
     ensures { result.now ≡ without_slash text.now }
 {
-    if text.is_empty() || text[0] != b'/' {
-        return text;
-    }
-    &text[1..]
+    text.strip_prefix(b"/").unwrap_or(text)
 }

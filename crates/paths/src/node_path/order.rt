@@ -9,22 +9,14 @@ use super::NodePath;
 use std::cmp::Ordering;
 use text::{ByteRank, compare_by};
 
-impl NodePath {
-    // Path order: name by name, each by its bytes; a path that ends first is smaller.
-    pub fn compare(&self, other: &NodePath) -> Ordering
-        ensures { result ≡ path_order (names_of self.now) (names_of other.now) }
-    {
-        compare_by::<SlashFirst>(self.text.as_bytes(), other.text.as_bytes())
-    }
-}
-
+// Kept: path order is not the order of the fields, where a length follows the bytes, and equality goes by names with it, so none of these four is derived.
 impl PartialEq for NodePath {
     ghost eq = { λ a b. same_path (names_of a) (names_of b) };
 
     ghost laws = { partial_equiv_from_equiv (on_equiv names_of same_path_equivalence) };
 
     fn eq(&self, other: &NodePath) -> bool {
-        self.compare(other).is_eq()
+        self.cmp(other).is_eq()
     }
 }
 
@@ -38,10 +30,11 @@ impl PartialOrd for NodePath {
     ghost laws = { partial_order_from_agreeing_total (λ a b. path_order (names_of a) (names_of b)) (on_total names_of path_order_total) (λ _ _. refl) (λ a b. same_path_ties (names_of a) (names_of b)) };
 
     fn partial_cmp(&self, other: &NodePath) -> Option<Ordering> {
-        Some(self.compare(other))
+        Some(self.cmp(other))
     }
 }
 
+// Name by name, each by its bytes; a path that ends first is smaller.
 impl Ord for NodePath {
     ghost cmp = { λ a b. path_order (names_of a) (names_of b) };
 
@@ -52,7 +45,7 @@ impl Ord for NodePath {
     ghost matches_eq = { λ a b. same_path_ties (names_of a) (names_of b) };
 
     fn cmp(&self, other: &NodePath) -> Ordering {
-        NodePath::compare(self, other)
+        compare_by::<SlashFirst>(self.text.as_bytes(), other.text.as_bytes())
     }
 }
 

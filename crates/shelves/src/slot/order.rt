@@ -5,7 +5,7 @@ ghost use Rattle.keys.specs.Values.{key_text};
 ghost use Rattle.text.proofs.Order.{before_trans, before-alone};
 
 use super::Slot;
-use keys::meta_key_v3;
+use keys::{MetadataFile, meta_key};
 use paths::NodePath;
 use std::cmp::Ordering;
 use table::Ordered;
@@ -17,7 +17,7 @@ impl Slot {
         ensures { (result.place ≡ 0) × (result.size ≡ 0) }
     {
         Slot {
-            key: meta_key_v3(&NodePath::root()),
+            key: meta_key(&NodePath::root(), MetadataFile::ZarrJson),
             place: 0,
             size: 0,
         }

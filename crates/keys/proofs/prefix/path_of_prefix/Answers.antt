@@ -1,4 +1,4 @@
-use Rattle.std.proofs.Common.{◌-◌, length, take, ap, ◌∙◌, rules}
+use Rattle.std.proofs.Common.{◌-◌, length, take, ap, ◌∙◌}
 use Rattle.text.specs.Bytes.{Bytes}
 use Rattle.paths.specs.Paths.{Path, joined}
 use Rattle.keys.specs.Keys.{is_prefix}
@@ -6,8 +6,9 @@ use Rattle.keys.specs.MetadataKeys.{path_of_prefix}
 use Rattle.keys.proofs.KeyTexts.{read_prefix}
 use Rattle.keys.proofs.prefix.path_of_prefix.Goals as goal
 
-pub returns : goal.returns
-returns c =
-    let t : Bytes = c.as_bytes-text.result.now in
-    c.join.ensures ∙ ap (λ (p : Path). joined p (take (length t - 1 - 0) t)) c.root-2.ensures ∙ read_prefix t (ap is_prefix c.as_bytes-text.ensures ∙ c.args.prefix.now.well) (search rules)
-    ∙ ap path_of_prefix c.as_bytes-text.ensures
+pub returns-in-len1-up : goal.returns-in-len1-up
+returns-in-len1-up c =
+    let t : Bytes = c.as_bytes.result.now in
+    c.join.ensures ∙ ap (λ (p : Path). joined p (take (length t - 1) t)) c.root-in-len1-up.ensures
+    ∙ read_prefix t (ap is_prefix c.as_bytes.ensures ∙ c.args.prefix.now.well) c.in-len1-up.len_at_least
+    ∙ ap path_of_prefix c.as_bytes.ensures

@@ -12,5 +12,5 @@ equal_if_same false false = refl
 
 pub returns : goal.returns
 returns c =
-    c.is_eq.ensures ∙ ap is_eq c.compare.ensures
+    c.is_eq.ensures ∙ ap is_eq c.cmp.ensures
     ∙ equal_if_same (same_path (names_of c.args.self.now) (names_of c.args.other.now)) (path_before (names_of c.args.self.now) (names_of c.args.other.now))

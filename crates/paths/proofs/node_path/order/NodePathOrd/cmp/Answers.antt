@@ -5,7 +5,7 @@ use Rattle.paths.specs.Paths.{rendered, same_path, rank, text_before}
 use Rattle.paths.specs.Values.{names_of}
 use Rattle.paths.proofs.PathOrder.{texts_compare_as_paths_lem}
 use Rattle.paths.proofs.Values.{lawful, written}
-use Rattle.paths.proofs.node_path.NodePath.compare.Goals as goal
+use Rattle.paths.proofs.node_path.order.NodePathOrd.cmp.Goals as goal
 
 pub returns : goal.returns
 returns c =
