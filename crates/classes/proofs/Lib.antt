@@ -1,3 +1,4 @@
 pub mod Turns
 mod Orders
 mod Lists
+mod Reserved

@@ -1,36 +1,12 @@
 -- One turn of each loop that makes the class list. Assumes nothing.
-use Rattle.std.proofs.Common.{◌≡◌, ℕ, suc, ◌+◌, ◌-◌, ◌<◌, ◌≤◌, true, false, cond, ◌&&◌, ◌||◌, eqb, List, [], ◌∷◌, ◌++◌, map, length, get_or, drop, Some, None, Option, sym, refl, ap, ◌∙◌, append_assoc, append-nil, arith, eq-eqb, ne_eqb}
-use Rattle.std.proofs.lemmas.List.{drop_more, drop_all}
-use Rattle.text.specs.Bytes.{Bytes}
-use Rattle.paths.specs.Names.{reserved}
+use Rattle.std.proofs.Common.{◌≡◌, ℕ, suc, ◌+◌, ◌-◌, ◌<◌, ◌≤◌, true, false, cond, List, [], ◌∷◌, ◌++◌, map, length, get_or, drop, Some, None, Option, sym, refl, ap, ◌∙◌, append_assoc, append-nil, arith}
+use Rattle.std.proofs.lemmas.List.{drop_more}
 use Rattle.paths.specs.Paths.{Path}
 use Rattle.paths.specs.Values.{names_of}
 use Rattle.classes.specs.declared.found.Found.{Found}
 use Rattle.classes.specs.declared.listing.Node.{Node}
 use Rattle.classes.specs.declared.listing.Passed.{Passed}
-use Rattle.classes.specs.Classes.{Entry, look, entry, told, has_reserved, last_path, is_last, granted_of, passed_of, kept_after, repeats_after, kept, repeats, repeated}
-
--- ---- reserved names
-
-module _ (t : Bytes) (i : ℕ) (h : i < length t) where
-  step : has_reserved (drop i t) ≡ ((eqb (get_or t i 0) 47 && reserved (drop (i + 1) t)) || has_reserved (drop (i + 1) t))
-  step = ap has_reserved (drop_more t i 0 h)
-
-  pub no_slash : (get_or t i 0 ≡ 47 → ⊥) → has_reserved (drop i t) ≡ has_reserved (drop (i + 1) t)
-  no_slash n = step ∙ ap (λ b. (b && reserved (drop (i + 1) t)) || has_reserved (drop (i + 1) t)) (ne_eqb (get_or t i 0) 47 n)
-
-  pub no_reserve : get_or t i 0 ≡ 47 → false ≡ reserved (drop (i + 1) t) → has_reserved (drop i t) ≡ has_reserved (drop (i + 1) t)
-  no_reserve e n =
-      step ∙ ap (λ b. (b && reserved (drop (i + 1) t)) || has_reserved (drop (i + 1) t)) (eq-eqb (get_or t i 0) 47 e)
-      ∙ ap (λ b. b || has_reserved (drop (i + 1) t)) (sym n)
-
-  pub reserve_here : get_or t i 0 ≡ 47 → true ≡ reserved (drop (i + 1) t) → true ≡ has_reserved (drop i t)
-  reserve_here e n =
-      sym (step ∙ ap (λ b. (b && reserved (drop (i + 1) t)) || has_reserved (drop (i + 1) t)) (eq-eqb (get_or t i 0) 47 e)
-      ∙ ap (λ b. b || has_reserved (drop (i + 1) t)) (sym n))
-
-pub none_reserved : (t : Bytes) (i : ℕ) → length t ≤ i → has_reserved (drop i t) ≡ false
-none_reserved t i h = ap has_reserved (drop_all i t h)
+use Rattle.classes.specs.Classes.{Entry, look, entry, told, last_path, is_last, granted_of, passed_of, kept_after, repeats_after, kept, repeats, repeated}
 
 -- ---- the last node
 

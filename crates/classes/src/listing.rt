@@ -1,19 +1,12 @@
 // The class list of an archive: from what was found in its folders to its nodes in path order.
-ghost use Rattle.std.specs.Prelude.{◌≡◌, ◌++◌, map, IfOk, Some, refl};
-ghost use Rattle.text.specs.Bytes.{same, byte_order};
-ghost use Rattle.paths.specs.Names.{reserved};
-ghost use Rattle.paths.specs.Paths.{path_order, same_path};
+ghost use Rattle.std.specs.Prelude.{◌≡◌, ◌++◌, map, IfOk};
 ghost use Rattle.paths.specs.Values.{names_of};
 ghost use Rattle.classes.specs.declared.listing.Reason.TheVariants.{Refused};
 ghost use Rattle.classes.specs.Classes.{entry, told, look, answer, judged, seen, has_reserved, allowed, granted_of, passed_of, last_path, is_last, kept, repeats, repeated, Listed};
-ghost use Rattle.std.specs.Cmp.{on_equiv, on_total, partial_equiv_from_equiv, partial_order_from_agreeing_total};
-ghost use Rattle.text.proofs.TotalOrders.{byte_order_total, same_equivalence, same_ties};
-ghost use Rattle.paths.specs.TotalOrders.{path_order_total, same_path_equivalence, same_path_ties};
 
 use crate::found::{Found, Kind, Sight};
 use paths::{NodePath, PathFault, is_reserved};
 use std::alloc::{AllocError, Global};
-use std::cmp::Ordering;
 
 // A node of the archive; its class number is its index in the list.
 #[derive(Clone, Copy)]
@@ -56,92 +49,15 @@ pub struct ClassList {
     pub passed: Vec<Passed>,
 }
 
-impl PartialEq for Node {
-    ghost eq = { λ a b. same_path (names_of a.path) (names_of b.path) };
-
-    ghost laws = { partial_equiv_from_equiv (on_equiv (λ n. names_of n.path) same_path_equivalence) };
-
-    fn eq(&self, other: &Node) -> bool {
-        self.cmp(other).is_eq()
-    }
-}
-
-impl Eq for Node {
-    ghost laws = { on_equiv (λ n. names_of n.path) same_path_equivalence };
-}
-
-impl PartialOrd for Node {
-    ghost partial_cmp = { λ a b. Some (path_order (names_of a.path) (names_of b.path)) };
-
-    ghost laws = { partial_order_from_agreeing_total (λ a b. path_order (names_of a.path) (names_of b.path)) (on_total (λ n. names_of n.path) path_order_total) (λ _ _. refl) (λ a b. same_path_ties (names_of a.path) (names_of b.path)) };
-
-    fn partial_cmp(&self, other: &Node) -> Option<Ordering> {
-        Some(self.cmp(other))
-    }
-}
-
-// By path alone, in path order.
-impl Ord for Node {
-    ghost cmp = { λ a b. path_order (names_of a.path) (names_of b.path) };
-
-    ghost total = { on_total (λ n. names_of n.path) path_order_total };
-
-    ghost matches_partial_cmp = { λ _ _. refl };
-
-    ghost matches_eq = { λ a b. same_path_ties (names_of a.path) (names_of b.path) };
-
-    fn cmp(&self, other: &Node) -> Ordering {
-        self.path.cmp(&other.path)
-    }
-}
-
-impl PartialEq for Passed {
-    ghost eq = { λ a b. same a.path.items b.path.items };
-
-    ghost laws = { partial_equiv_from_equiv (on_equiv (λ p. p.path.items) same_equivalence) };
-
-    fn eq(&self, other: &Passed) -> bool {
-        self.cmp(other).is_eq()
-    }
-}
-
-impl Eq for Passed {
-    ghost laws = { on_equiv (λ p. p.path.items) same_equivalence };
-}
-
-impl PartialOrd for Passed {
-    ghost partial_cmp = { λ a b. Some (byte_order a.path.items b.path.items) };
-
-    ghost laws = { partial_order_from_agreeing_total (λ a b. byte_order a.path.items b.path.items) (on_total (λ p. p.path.items) byte_order_total) (λ _ _. refl) (λ a b. same_ties a.path.items b.path.items) };
-
-    fn partial_cmp(&self, other: &Passed) -> Option<Ordering> {
-        Some(self.cmp(other))
-    }
-}
-
-// By the bytes of the path: one that is refused has no place in path order.
-impl Ord for Passed {
-    ghost cmp = { λ a b. byte_order a.path.items b.path.items };
-
-    ghost total = { on_total (λ p. p.path.items) byte_order_total };
-
-    ghost matches_partial_cmp = { λ _ _. refl };
-
-    ghost matches_eq = { λ a b. same_ties a.path.items b.path.items };
-
-    fn cmp(&self, other: &Passed) -> Ordering {
-        text::compare(self.path.as_slice(), other.path.as_slice())
-    }
-}
-
 // Lists what was found: the nodes in path order, each path once, and what was passed over, by the bytes of the paths.
 pub fn class_list(heap: Global, found: &[Found]) -> Result<ClassList, AllocError>
     ensures { IfOk result (λ l. Listed (map look found.now) (map entry l.nodes.items) (map told l.passed.items)) }
 {
     let ClassList { mut nodes, passed } = sift(heap, found)?;
-    nodes.sort()?;
+    nodes.sort_by(|a, b| a.path.cmp(&b.path))?;
     let ClassList { nodes, mut passed } = settle(heap, nodes.as_slice(), passed)?;
-    passed.sort()?;
+    // one that is refused has no place in path order
+    passed.sort_by(|a, b| text::compare(a.path.as_slice(), b.path.as_slice()))?;
     Ok(ClassList { nodes, passed })
 }
 
@@ -180,12 +96,9 @@ fn judge_sight(path: NodePath, sight: Sight) -> Result<Node, Reason>
 fn has_reserved(path: &[u8]) -> bool
     ensures { result ≡ has_reserved path.now }
 {
-    for i in 0..path.len() {
-        if path[i] == b'/' && is_reserved(&path[i + 1..]) {
-            return true;
-        }
-    }
-    false
+    path.split(|b| *b == b'/')
+        .skip(1)
+        .any(|name| is_reserved(name))
 }
 
 // The nodes, and what is passed over, each in the order in which it was found.
@@ -232,7 +145,7 @@ fn is_last(nodes: &[Node], node: &Node) -> bool
     ensures { result ≡ is_last (last_path (map entry nodes.now)) (names_of node.now.path) }
 {
     match nodes.last() {
-        Some(last) => last == node,
+        Some(last) => last.path == node.path,
         None => false,
     }
 }

@@ -1,3 +1,2 @@
 pub mod Asks
-pub mod Shown
 pub mod Reports

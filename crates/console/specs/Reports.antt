@@ -10,7 +10,7 @@ use Rattle.paths.specs.Paths.{rendered}
 use Rattle.classes.specs.declared.listing.Reason.{Reason}
 use Rattle.classes.specs.declared.listing.Reason.TheVariants.{Reserved, Refused, Unmarked, Link, Unnamed, Repeated}
 use Rattle.classes.specs.Classes.{Entry, Told}
-use Rattle.console.specs.Shown.{shown}
+use Rattle.printing.specs.Shown.{shown}
 use Rattle.classes.specs.Sights.{kind_name}
 
 -- ---- why something was passed over

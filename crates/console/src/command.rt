@@ -26,16 +26,11 @@ pub fn parse(words: &[String]) -> Result<Command<'_>, UsageFault<'_>>
 {
     match words {
         [] => Err(UsageFault::NoCommand),
-        [command, rest @ ..] => {
-            let command = command.as_str();
-            if command == "help" {
-                help(rest)
-            } else if command == "classes" {
-                classes(rest)
-            } else {
-                Err(UsageFault::UnknownCommand(command))
-            }
-        }
+        [command, rest @ ..] => match command.as_str() {
+            "help" => help(rest),
+            "classes" => classes(rest),
+            unknown => Err(UsageFault::UnknownCommand(unknown)),
+        },
     }
 }
 

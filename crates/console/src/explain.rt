@@ -1,50 +1,55 @@
 // Why something was passed over, and what to do about it.
-ghost use Rattle.std.specs.Prelude.{◌≡◌, IfOk, string_bytes};
+ghost use Rattle.std.specs.Prelude.{◌≡◌, Some};
+ghost use Rattle.std.specs.Fmt.{WritesOnOk};
 ghost use Rattle.paths.specs.Faults.{told_of_path};
-ghost use Rattle.console.specs.Reports.{sentence as sentence_of, refusal as refusal_of, advice as advice_on};
+ghost use Rattle.console.specs.Reports.{sentence, refusal as refusal_of, advice as advice_on};
 
 use classes::listing::Reason;
 use paths::PathFault;
-use std::alloc::{AllocError, Global};
+use std::fmt;
 use text::Fault;
 
-// One sentence for a reason; that of a fault has its number and its layer.
-pub fn sentence(heap: Global, reason: Reason) -> Result<String, AllocError>
-    ensures { IfOk result (λ s. string_bytes s ≡ sentence_of reason) }
-{
-    match reason {
-        Reason::Reserved => String::from_str(
-            heap,
-            "a name that begins with __ is reserved, so it was not read; rename it to list it",
-        ),
-        Reason::Refused(fault) => refusal(heap, fault, advice(fault)),
-        Reason::Unmarked => String::from_str(
-            heap,
-            "it holds no zarr.json, .zarray or .zgroup, so it is no node and nothing below it was read",
-        ),
-        Reason::Link => String::from_str(
-            heap,
-            "it is a symbolic link, which is not followed; put the folder itself in its place",
-        ),
-        Reason::Unnamed => refusal(
-            heap,
-            PathFault::Invalid,
-            "it holds an entry whose name is not UTF-8; rename that entry",
-        ),
-        Reason::Repeated => String::from_str(
-            heap,
-            "another node has the same path; it is listed once",
-        ),
+// A reason, printed as one sentence; that of a fault has its number and its layer.
+#[derive(Clone, Copy)]
+pub struct Sentence(pub Reason);
+
+impl fmt::Display for Sentence {
+    ghost output = { λ s. Some (sentence s.0) };
+
+    fn fmt<W: fmt::Write>(&self, f: &mut fmt::Formatter<W>) -> fmt::Result {
+        match self.0 {
+            Reason::Reserved => f.write_str(
+                "a name that begins with __ is reserved, so it was not read; rename it to list it",
+            ),
+            Reason::Refused(fault) => write_refusal(f, fault, advice(fault)),
+            Reason::Unmarked => f.write_str(
+                "it holds no zarr.json, .zarray or .zgroup, so it is no node and nothing below it was read",
+            ),
+            Reason::Link => f.write_str(
+                "it is a symbolic link, which is not followed; put the folder itself in its place",
+            ),
+            Reason::Unnamed => write_refusal(
+                f,
+                PathFault::Invalid,
+                "it holds an entry whose name is not UTF-8; rename that entry",
+            ),
+            Reason::Repeated => f.write_str("another node has the same path; it is listed once"),
+        }
     }
 }
 
-fn refusal(heap: Global, fault: PathFault, advice: &str) -> Result<String, AllocError>
-    ensures { IfOk result (λ s. string_bytes s ≡ refusal_of (told_of_path fault) advice.now) }
+// A fault's sentence: its number and its layer, and then what to do about it.
+fn write_refusal<W: fmt::Write>(
+    f: &mut fmt::Formatter<W>,
+    fault: PathFault,
+    advice: &str,
+) -> fmt::Result
+    ensures { WritesOnOk W.write_str_gives f.old result (refusal_of (told_of_path fault) advice.now) f.new }
 {
     let told = fault.report();
     let number = told.number;
     let layer = told.layer.name();
-    format!(in heap; "fault {number} of the {layer} layer, {advice}")
+    write!(f, "fault {number} of the {layer} layer, {advice}")
 }
 
 fn advice(fault: PathFault) -> &'static str

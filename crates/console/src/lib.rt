@@ -4,6 +4,5 @@
 pub mod command;
 pub mod explain;
 pub mod report;
-pub mod shown;
 #[cfg(test)]
 mod tests;

@@ -1,11 +1,11 @@
 // The report on an archive, as it is printed.
 ghost use Rattle.std.specs.Prelude.{◌≡◌, max, ◌++◌, map, length, IfOk, decimal, OnOk};
 ghost use Rattle.classes.specs.Classes.{entry, told};
-ghost use Rattle.console.specs.Reports.{spaces, at_right, at_left, node_line, nodes_text, node_lines, passed_line, passed_lines, passed_text, totals, report_text};
+ghost use Rattle.console.specs.Reports.{node_line, nodes_text, node_lines, passed_line, passed_text, totals, report_text};
 
-use crate::explain;
-use crate::shown::push_shown;
+use crate::explain::Sentence;
 use classes::listing::{ClassList, Node, Passed};
+use printing::push_shown;
 use std::alloc::{AllocError, Global};
 
 // The numbered list of the nodes, what was passed over and why, and the totals.
@@ -16,21 +16,21 @@ pub fn report(heap: Global, archive: &str, list: &ClassList) -> Result<Vec<u8>, 
     out.extend_from_slice(b"Classes of ")?;
     push_shown(&mut out, archive.as_bytes())?;
     out.extend_from_slice(b"\n\n")?;
-    push_nodes(heap, &mut out, list.nodes.as_slice())?;
+    push_nodes(&mut out, list.nodes.as_slice())?;
     out.extend_from_slice(b"\nPassed over:\n")?;
-    push_passed(heap, &mut out, list.passed.as_slice())?;
-    push_totals(heap, &mut out, list.nodes.len(), list.passed.len())?;
+    push_passed(&mut out, list.passed.as_slice())?;
+    push_totals(&mut out, list.nodes.len(), list.passed.len())?;
     Ok(out)
 }
 
-fn push_nodes(heap: Global, out: &mut Vec<u8>, nodes: &[Node]) -> Result<(), AllocError>
+fn push_nodes(out: &mut Vec<u8>, nodes: &[Node]) -> Result<(), AllocError>
     ensures { OnOk result (out.new.items ≡ out.old.items ++ nodes_text (map entry nodes.now)) }
 {
+    let heap = *out.allocator();
     let width = number_width(heap, nodes.len())?;
-    push_right(out, width, "No.")?;
-    out.extend_from_slice(b"  Kind      Path\n")?;
-    push_node_lines(heap, out, width, nodes)?;
-    Ok(())
+    let head = format!(in heap; "{:>width$}  Kind      Path\n", "No.")?;
+    out.extend_from_slice(head.as_bytes())?;
+    push_node_lines(out, width, nodes)
 }
 
 // The width of the column of numbers, whose head is three wide.
@@ -41,105 +41,50 @@ fn number_width(heap: Global, count: usize) -> Result<usize, AllocError>
     Ok(digits.len().max(3))
 }
 
-fn push_node_lines(
-    heap: Global,
-    out: &mut Vec<u8>,
-    width: usize,
-    nodes: &[Node],
-) -> Result<(), AllocError>
+fn push_node_lines(out: &mut Vec<u8>, width: usize, nodes: &[Node]) -> Result<(), AllocError>
     ensures { OnOk result (out.new.items ≡ out.old.items ++ node_lines width 0 (map entry nodes.now)) }
 {
-    for number in 0..nodes.len() {
-        push_node(heap, out, width, number, &nodes[number])?;
+    for (number, node) in nodes.iter().enumerate() {
+        push_node(out, width, number, node)?;
     }
     Ok(())
 }
 
-fn push_node(
-    heap: Global,
-    out: &mut Vec<u8>,
-    width: usize,
-    number: usize,
-    node: &Node,
-) -> Result<(), AllocError>
+fn push_node(out: &mut Vec<u8>, width: usize, number: usize, node: &Node) -> Result<(), AllocError>
     ensures { OnOk result (out.new.items ≡ out.old.items ++ node_line width number (entry node.now)) }
 {
-    let digits = format!(in heap; "{number}")?;
-    push_right(out, width, digits.as_str())?;
-    out.extend_from_slice(b"  ")?;
-    push_left(out, 10, node.kind.name())?;
+    let kind = node.kind.name();
+    let columns = format!(in *out.allocator(); "{number:>width$}  {kind:<10}")?;
+    out.extend_from_slice(columns.as_bytes())?;
     push_shown(out, node.path.as_bytes())?;
     out.push(b'\n')?;
     Ok(())
 }
 
-// Adds a text at the right of a column.
-fn push_right(out: &mut Vec<u8>, width: usize, text: &str) -> Result<(), AllocError>
-    ensures { OnOk result (out.new.items ≡ out.old.items ++ at_right width text.now) }
-{
-    push_spaces(out, width.saturating_sub(text.len()))?;
-    out.extend_from_slice(text.as_bytes())?;
-    Ok(())
-}
-
-// Adds a text at the left of a column.
-fn push_left(out: &mut Vec<u8>, width: usize, text: &str) -> Result<(), AllocError>
-    ensures { OnOk result (out.new.items ≡ out.old.items ++ at_left width text.now) }
-{
-    out.extend_from_slice(text.as_bytes())?;
-    push_spaces(out, width.saturating_sub(text.len()))?;
-    Ok(())
-}
-
-fn push_spaces(out: &mut Vec<u8>, count: usize) -> Result<(), AllocError>
-    ensures { OnOk result (out.new.items ≡ out.old.items ++ spaces count) }
-{
-    for _i in 0..count {
-        out.push(b' ')?;
-    }
-    Ok(())
-}
-
-fn push_passed(heap: Global, out: &mut Vec<u8>, passed: &[Passed]) -> Result<(), AllocError>
+fn push_passed(out: &mut Vec<u8>, passed: &[Passed]) -> Result<(), AllocError>
     ensures { OnOk result (out.new.items ≡ out.old.items ++ passed_text (map told passed.now)) }
 {
     if passed.is_empty() {
-        out.extend_from_slice(b"  nothing\n")?;
-    } else {
-        push_passed_lines(heap, out, passed)?;
+        return out.extend_from_slice(b"  nothing\n");
     }
-    Ok(())
-}
-
-fn push_passed_lines(heap: Global, out: &mut Vec<u8>, passed: &[Passed]) -> Result<(), AllocError>
-    ensures { OnOk result (out.new.items ≡ out.old.items ++ passed_lines (map told passed.now)) }
-{
     for one in passed {
-        push_passed_line(heap, out, one)?;
+        push_passed_line(out, one)?;
     }
     Ok(())
 }
 
-fn push_passed_line(heap: Global, out: &mut Vec<u8>, one: &Passed) -> Result<(), AllocError>
+fn push_passed_line(out: &mut Vec<u8>, one: &Passed) -> Result<(), AllocError>
     ensures { OnOk result (out.new.items ≡ out.old.items ++ passed_line (told one.now)) }
 {
     out.extend_from_slice(b"  ")?;
     push_shown(out, one.path.as_slice())?;
-    out.extend_from_slice(b": ")?;
-    let why = explain::sentence(heap, one.reason)?;
-    out.extend_from_slice(why.as_bytes())?;
-    out.push(b'\n')?;
-    Ok(())
+    let why = format!(in *out.allocator(); ": {}\n", Sentence(one.reason))?;
+    out.extend_from_slice(why.as_bytes())
 }
 
-fn push_totals(
-    heap: Global,
-    out: &mut Vec<u8>,
-    nodes: usize,
-    passed: usize,
-) -> Result<(), AllocError>
+fn push_totals(out: &mut Vec<u8>, nodes: usize, passed: usize) -> Result<(), AllocError>
     ensures { OnOk result (out.new.items ≡ out.old.items ++ totals nodes passed) }
 {
-    let text = format!(in heap; "\nNodes: {nodes}\nPassed over: {passed}\n")?;
+    let text = format!(in *out.allocator(); "\nNodes: {nodes}\nPassed over: {passed}\n")?;
     out.extend_from_slice(text.as_bytes())
 }

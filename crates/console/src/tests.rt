@@ -1,9 +1,9 @@
 // What the commands say of a few small cases.
 use crate::command;
 use crate::report::report;
-use crate::shown::push_shown;
 use classes::found::{Found, Marks, Sight};
 use classes::listing::class_list;
+use printing::push_shown;
 use std::alloc::{AllocError, Global};
 use std::test::Fail;
 

@@ -1,70 +1,77 @@
--- A line cut at its spaces, byte by byte; and the words of a call by their number.
+-- A line cut at its spaces; and the words of a call by their number.
 -- Assumes nothing.
-use Rattle.std.proofs.Common.{◌≡◌, ℕ, ◌+◌, ◌<◌, ◌≤◌, cond, List, [], ◌∷◌, ◌++◌, map, length, get_or, drop, None, sym, refl, ap, ◌∙◌, append_assoc, arith, eq-eqb, ne_eqb}
-use Rattle.std.proofs.lemmas.List.{drop_more, drop_all}
+use Rattle.std.proofs.Common.{◌≡◌, ◌<◌, Bool, true, false, cond, eqb, List, [], ◌∷◌, ◌++◌, map, length, get_or, None, sym, refl, ap, ◌∙◌, append_assoc, append-nil, arith}
+use Rattle.std.specs.List.{slice_split, onto_first}
 use Rattle.text.specs.Bytes.{Bytes}
 use Rattle.lines.specs.Words.{cut, cut_behind}
 use Rattle.lines.specs.Calls.{asked, alone, with_one, with_two, with_three}
 
+-- ---- the cut is that of the library
+
+abbrev parts : Bytes → List Bytes
+parts t = slice_split (λ b. eqb b 32) t
+
+abbrev begun : Bytes → List Bytes → List Bytes
+begun w [] = w ∷ []
+begun w (p ∷ ps) = (w ++ p) ∷ ps
+
+not_begun : (t : Bytes) → begun [] (parts t) ≡ parts t
+not_begun [] = refl
+not_begun (b ∷ t) = by (eqb b 32) (parts t)
+  where
+    by : (e : Bool) (ps : List Bytes) → begun [] (cond e ([] ∷ ps) (onto_first b ps)) ≡ cond e ([] ∷ ps) (onto_first b ps)
+    by true ps = refl
+    by false [] = refl
+    by false (p ∷ ps) = refl
+
+begun_more : (w : Bytes) (b : _) (ps : List Bytes) → begun (w ++ (b ∷ [])) ps ≡ begun w (onto_first b ps)
+begun_more w b [] = refl
+begun_more w b (p ∷ ps) = ap (λ q. q ∷ ps) (append_assoc w (b ∷ []) p)
+
+cut_begun : (w t : Bytes) → cut_behind w t ≡ begun w (parts t)
+cut_begun w [] = ap (λ q. q ∷ []) (sym (append-nil w))
+cut_begun w (b ∷ t) = by (eqb b 32) (cut_begun [] t ∙ not_begun t) (cut_begun (w ++ (b ∷ [])) t)
+  where
+    by : (e : Bool) → cut_behind [] t ≡ parts t → cut_behind (w ++ (b ∷ [])) t ≡ begun (w ++ (b ∷ [])) (parts t) → cond e (w ∷ cut_behind [] t) (cut_behind (w ++ (b ∷ [])) t) ≡ begun w (cond e ([] ∷ parts t) (onto_first b (parts t)))
+    by true f g = ap (λ q. w ∷ q) f ∙ ap (λ q. q ∷ parts t) (sym (append-nil w))
+    by false f g = g ∙ begun_more w b (parts t)
+
+pub cut_parts : (t : Bytes) → cut t ≡ parts t
+cut_parts t = cut_begun [] t ∙ not_begun t
+
+pub map_push : {X Y : Type 0} (f : X → Y) (ws : List X) (w : X) → map f (ws ++ (w ∷ [])) ≡ map f ws ++ (f w ∷ [])
+map_push f [] w = refl
+map_push f (v ∷ ws) w = ap (λ t. f v ∷ t) (map_push f ws w)
+
+-- ---- a call by how many words stand behind its name
+
 module _ {X : Type 0} (f : X → Bytes) where
-  map_push : (ws : List X) (w : X) → map f (ws ++ (w ∷ [])) ≡ map f ws ++ (f w ∷ [])
-  map_push [] w = refl
-  map_push (v ∷ ws) w = ap (λ t. f v ∷ t) (map_push ws w)
+  pub call_0 : (n : Bytes) (ws : List X) → length ws ≡ 0 → asked (n ∷ map f ws) ≡ alone n
+  call_0 n [] h = refl
+  call_0 n (w ∷ ws) h = absurd (omega arith)
 
-  pub cut_space : (line : Bytes) (ws : List X) (w : X) (new : Bytes) (i : ℕ) → i < length line → get_or line i 0 ≡ 32 → new ≡ [] → map f ws ++ cut_behind (f w) (drop i line) ≡ map f (ws ++ (w ∷ [])) ++ cut_behind new (drop (i + 1) line)
-  cut_space line ws w new i h e n =
-      ap (λ t. map f ws ++ cut_behind (f w) t) (drop_more line i 0 h)
-      ∙ ap (λ b. map f ws ++ cond b (f w ∷ cut_behind [] (drop (i + 1) line)) (cut_behind (f w ++ (get_or line i 0 ∷ [])) (drop (i + 1) line))) (eq-eqb (get_or line i 0) 32 e)
-      ∙ sym (append_assoc (map f ws) (f w ∷ []) (cut_behind [] (drop (i + 1) line)))
-      ∙ ap (λ t. t ++ cut_behind [] (drop (i + 1) line)) (sym (map_push ws w))
-      ∙ ap (λ t. map f (ws ++ (w ∷ [])) ++ cut_behind t (drop (i + 1) line)) (sym n)
+  pub call_1 : (n : Bytes) (ws : List X) (x : X) → length ws ≡ 1 → x ≡ get_or ws 0 x → asked (n ∷ map f ws) ≡ with_one n (f x)
+  call_1 n [] x h e = absurd (omega arith)
+  call_1 n (w ∷ []) x h e = ap (λ z. with_one n (f z)) (sym e)
+  call_1 n (w ∷ v ∷ ws) x h e = absurd (omega arith)
 
-  pub cut_byte : (line : Bytes) (ws : List X) (w more : Bytes) (i : ℕ) → i < length line → (get_or line i 0 ≡ 32 → ⊥) → more ≡ w ++ (get_or line i 0 ∷ []) → map f ws ++ cut_behind w (drop i line) ≡ map f ws ++ cut_behind more (drop (i + 1) line)
-  cut_byte line ws w more i h ne m =
-      ap (λ t. map f ws ++ cut_behind w t) (drop_more line i 0 h)
-      ∙ ap (λ b. map f ws ++ cond b (w ∷ cut_behind [] (drop (i + 1) line)) (cut_behind (w ++ (get_or line i 0 ∷ [])) (drop (i + 1) line))) (ne_eqb (get_or line i 0) 32 ne)
-      ∙ ap (λ t. map f ws ++ cut_behind t (drop (i + 1) line)) (sym m)
+  pub call_2 : (n : Bytes) (ws : List X) (x y : X) → length ws ≡ 2 → x ≡ get_or ws 0 x → y ≡ get_or ws 1 y → asked (n ∷ map f ws) ≡ with_two n (f x) (f y)
+  call_2 n [] x y h e d = absurd (omega arith)
+  call_2 n (w ∷ []) x y h e d = absurd (omega arith)
+  call_2 n (w ∷ v ∷ []) x y h e d = ap (λ z. with_two n (f z) (f v)) (sym e) ∙ ap (λ z. with_two n (f x) (f z)) (sym d)
+  call_2 n (w ∷ v ∷ u ∷ ws) x y h e d = absurd (omega arith)
 
-  pub cut_end : (line : Bytes) (ws : List X) (w : X) (i : ℕ) → length line ≤ i → map f ws ++ cut_behind (f w) (drop i line) ≡ map f (ws ++ (w ∷ []))
-  cut_end line ws w i h = ap (λ t. map f ws ++ cut_behind (f w) t) (drop_all i line h) ∙ sym (map_push ws w)
+  pub call_3 : (n : Bytes) (ws : List X) (x y z : X) → length ws ≡ 3 → x ≡ get_or ws 0 x → y ≡ get_or ws 1 y → z ≡ get_or ws 2 z → asked (n ∷ map f ws) ≡ with_three n (f x) (f y) (f z)
+  call_3 n [] x y z h e d b = absurd (omega arith)
+  call_3 n (w ∷ []) x y z h e d b = absurd (omega arith)
+  call_3 n (w ∷ v ∷ []) x y z h e d b = absurd (omega arith)
+  call_3 n (w ∷ v ∷ u ∷ []) x y z h e d b = ap (λ t. with_three n (f t) (f v) (f u)) (sym e) ∙ ap (λ t. with_three n (f x) (f t) (f u)) (sym d) ∙ ap (λ t. with_three n (f x) (f y) (f t)) (sym b)
+  call_3 n (w ∷ v ∷ u ∷ t ∷ ws) x y z h e d b = absurd (omega arith)
 
-  -- ---- a call by the number of its words
-
-  pub words_1 : (ws : List X) (x : X) → length ws ≡ 1 → x ≡ get_or ws 0 x → asked (map f ws) ≡ alone (f x)
-  words_1 [] x h e = absurd (omega arith)
-  words_1 (w ∷ []) x h e = ap (λ y. alone (f y)) (sym e)
-  words_1 (w ∷ v ∷ ws) x h e = absurd (omega arith)
-
-  pub words_2 : (ws : List X) (x y : X) → length ws ≡ 2 → x ≡ get_or ws 0 x → y ≡ get_or ws 1 y → asked (map f ws) ≡ with_one (f x) (f y)
-  words_2 [] x y h e d = absurd (omega arith)
-  words_2 (w ∷ []) x y h e d = absurd (omega arith)
-  words_2 (w ∷ v ∷ []) x y h e d = ap (λ z. with_one (f z) (f v)) (sym e) ∙ ap (λ z. with_one (f x) (f z)) (sym d)
-  words_2 (w ∷ v ∷ u ∷ ws) x y h e d = absurd (omega arith)
-
-  pub words_3 : (ws : List X) (x y z : X) → length ws ≡ 3 → x ≡ get_or ws 0 x → y ≡ get_or ws 1 y → z ≡ get_or ws 2 z → asked (map f ws) ≡ with_two (f x) (f y) (f z)
-  words_3 [] x y z h e d b = absurd (omega arith)
-  words_3 (w ∷ []) x y z h e d b = absurd (omega arith)
-  words_3 (w ∷ v ∷ []) x y z h e d b = absurd (omega arith)
-  words_3 (w ∷ v ∷ u ∷ []) x y z h e d b = ap (λ t. with_two (f t) (f v) (f u)) (sym e) ∙ ap (λ t. with_two (f x) (f t) (f u)) (sym d) ∙ ap (λ t. with_two (f x) (f y) (f t)) (sym b)
-  words_3 (w ∷ v ∷ u ∷ t ∷ ws) x y z h e d b = absurd (omega arith)
-
-  pub words_4 : (ws : List X) (x y z q : X) → length ws ≡ 4 → x ≡ get_or ws 0 x → y ≡ get_or ws 1 y → z ≡ get_or ws 2 z → q ≡ get_or ws 3 q → asked (map f ws) ≡ with_three (f x) (f y) (f z) (f q)
-  words_4 [] x y z q h e d b a = absurd (omega arith)
-  words_4 (w ∷ []) x y z q h e d b a = absurd (omega arith)
-  words_4 (w ∷ v ∷ []) x y z q h e d b a = absurd (omega arith)
-  words_4 (w ∷ v ∷ u ∷ []) x y z q h e d b a = absurd (omega arith)
-  words_4 (w ∷ v ∷ u ∷ t ∷ []) x y z q h e d b a =
-      ap (λ o. with_three (f o) (f v) (f u) (f t)) (sym e) ∙ ap (λ o. with_three (f x) (f o) (f u) (f t)) (sym d) ∙ ap (λ o. with_three (f x) (f y) (f o) (f t)) (sym b) ∙ ap (λ o. with_three (f x) (f y) (f z) (f o)) (sym a)
-  words_4 (w ∷ v ∷ u ∷ t ∷ s ∷ ws) x y z q h e d b a = absurd (omega arith)
-
-  -- no words, or more than four
-  pub words_other : (ws : List X) → (length ws ≡ 1 → ⊥) → (length ws ≡ 2 → ⊥) → (length ws ≡ 3 → ⊥) → (length ws ≡ 4 → ⊥) → asked (map f ws) ≡ None
-  words_other [] a b c d = refl
-  words_other (w ∷ []) a b c d = absurd (a refl)
-  words_other (w ∷ v ∷ []) a b c d = absurd (b refl)
-  words_other (w ∷ v ∷ u ∷ []) a b c d = absurd (c refl)
-  words_other (w ∷ v ∷ u ∷ t ∷ []) a b c d = absurd (d refl)
-  words_other (w ∷ v ∷ u ∷ t ∷ s ∷ ws) a b c d = refl
-
-  pub cut_start : (line : Bytes) (ws : List X) (w : Bytes) → ws ≡ [] → w ≡ [] → cut line ≡ map f ws ++ cut_behind w line
-  cut_start line ws w e d = ap (λ t. cut_behind t line) (sym d) ∙ ap (λ t. map f t ++ cut_behind w line) (sym e)
+  -- more than three words behind the name
+  pub call_more : (n : Bytes) (ws : List X) → 3 < length ws → asked (n ∷ map f ws) ≡ None
+  call_more n [] h = absurd (omega arith)
+  call_more n (w ∷ []) h = absurd (omega arith)
+  call_more n (w ∷ v ∷ []) h = absurd (omega arith)
+  call_more n (w ∷ v ∷ u ∷ []) h = absurd (omega arith)
+  call_more n (w ∷ v ∷ u ∷ t ∷ ws) h = refl

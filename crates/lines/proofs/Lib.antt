@@ -1,2 +1,3 @@
 pub mod Spellings
 pub mod Cuts
+pub mod Texts

@@ -1,7 +1,8 @@
 -- The calls of a script: which words ask for what. A line with other words, with bytes or a size that is none, or with too few or too many words asks for nothing.
 -- Assumes nothing.
 use Rattle.std.specs.Prelude.{ℕ, cond, List, [], ◌∷◌, Some, None, codes, Option}
-use Rattle.text.specs.Bytes.{Bytes, same}
+use Rattle.std.specs.Str.{bytes_eq}
+use Rattle.text.specs.Bytes.{Bytes}
 use Rattle.keys.specs.declared.file.MetadataFile.{MetadataFile}
 use Rattle.keys.specs.declared.file.MetadataFile.TheVariants.{ZarrJson, Zarray, Zgroup, Zattrs}
 use Rattle.lines.specs.declared.call.Side.{Side}
@@ -42,44 +43,44 @@ of3 f (Some a) b c = of2 (f a) b c
 of3 f None b c = None
 
 abbrev pub side_of : Bytes → Option Side
-side_of w = cond (same w (codes "outer")) (Some Outer) (cond (same w (codes "inner")) (Some Inner) None)
+side_of w = cond (bytes_eq w (codes "outer")) (Some Outer) (cond (bytes_eq w (codes "inner")) (Some Inner) None)
 
 abbrev pub file_of : Bytes → Option MetadataFile
 file_of w =
-    cond (same w (codes "v3")) (Some ZarrJson)
-    (cond (same w (codes "array")) (Some Zarray)
-    (cond (same w (codes "group")) (Some Zgroup)
-    (cond (same w (codes "attributes")) (Some Zattrs) None)))
+    cond (bytes_eq w (codes "v3")) (Some ZarrJson)
+    (cond (bytes_eq w (codes "array")) (Some Zarray)
+    (cond (bytes_eq w (codes "group")) (Some Zgroup)
+    (cond (bytes_eq w (codes "attributes")) (Some Zattrs) None)))
 
 -- the calls by how many words stand behind their name
 abbrev pub alone : Bytes → Option Asked
-alone n = cond (same n (codes "dump")) (Some dump) None
+alone n = cond (bytes_eq n (codes "dump")) (Some dump) None
 
 abbrev pub with_one : Bytes → Bytes → Option Asked
 with_one n a =
-    cond (same n (codes "image")) (of1 image (spelled a))
-    (cond (same n (codes "mount")) (of1 mount (spelled a))
-    (cond (same n (codes "erase")) (of1 erase (spelled a))
-    (cond (same n (codes "name")) (of1 name (spelled a))
-    (cond (same n (codes "path")) (of1 path (spelled a))
-    (cond (same n (codes "parent")) (of1 parent (spelled a)) None)))))
+    cond (bytes_eq n (codes "image")) (of1 image (spelled a))
+    (cond (bytes_eq n (codes "mount")) (of1 mount (spelled a))
+    (cond (bytes_eq n (codes "erase")) (of1 erase (spelled a))
+    (cond (bytes_eq n (codes "name")) (of1 name (spelled a))
+    (cond (bytes_eq n (codes "path")) (of1 path (spelled a))
+    (cond (bytes_eq n (codes "parent")) (of1 parent (spelled a)) None)))))
 
 abbrev pub with_two : Bytes → Bytes → Bytes → Option Asked
 with_two n a b =
-    cond (same n (codes "shelf")) (of2 shelf (size_of 4096 a) (size_of 4194304 b))
-    (cond (same n (codes "lower")) (of2 lower (side_of a) (number_of b))
-    (cond (same n (codes "get")) (of2 get (spelled a) (size_of 1048576 b))
-    (cond (same n (codes "set")) (of2 set (spelled a) (spelled b))
-    (cond (same n (codes "join")) (of2 join (spelled a) (spelled b))
-    (cond (same n (codes "compare")) (of2 compare (spelled a) (spelled b))
-    (cond (same n (codes "key")) (of2 key (file_of a) (spelled b))
-    (cond (same n (codes "data-key")) (of2 data_key (spelled a) (spelled b)) None)))))))
+    cond (bytes_eq n (codes "shelf")) (of2 shelf (size_of 4096 a) (size_of 4194304 b))
+    (cond (bytes_eq n (codes "lower")) (of2 lower (side_of a) (number_of b))
+    (cond (bytes_eq n (codes "get")) (of2 get (spelled a) (size_of 1048576 b))
+    (cond (bytes_eq n (codes "set")) (of2 set (spelled a) (spelled b))
+    (cond (bytes_eq n (codes "join")) (of2 join (spelled a) (spelled b))
+    (cond (bytes_eq n (codes "compare")) (of2 compare (spelled a) (spelled b))
+    (cond (bytes_eq n (codes "key")) (of2 key (file_of a) (spelled b))
+    (cond (bytes_eq n (codes "data-key")) (of2 data_key (spelled a) (spelled b)) None)))))))
 
 abbrev pub with_three : Bytes → Bytes → Bytes → Bytes → Option Asked
 with_three n a b c =
-    cond (same n (codes "raise")) (of3 raise (side_of a) (number_of b) (spelled c))
-    (cond (same n (codes "next-key")) (of3 next_key (spelled a) (spelled b) (size_of 1048576 c))
-    (cond (same n (codes "next-child")) (of3 next_child (spelled a) (spelled b) (size_of 1048576 c)) None))
+    cond (bytes_eq n (codes "raise")) (of3 raise (side_of a) (number_of b) (spelled c))
+    (cond (bytes_eq n (codes "next-key")) (of3 next_key (spelled a) (spelled b) (size_of 1048576 c))
+    (cond (bytes_eq n (codes "next-child")) (of3 next_child (spelled a) (spelled b) (size_of 1048576 c)) None))
 
 abbrev pub asked : List Bytes → Option Asked
 asked [] = None

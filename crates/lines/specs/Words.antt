@@ -1,7 +1,9 @@
 -- The words of a line of a script, and what a word stands for: bytes as they are or in hexadecimal digits, and sizes.
 -- Assumes nothing.
 use Rattle.std.specs.Prelude.{ℕ, ◌+◌, ◌-◌, ◌*◌, ◌^◌, Bool, true, false, cond, ◌&&◌, List, [], ◌∷◌, ◌++◌, Some, None, codes, Option, ◌==◌, nat_le, nat_lt}
-use Rattle.text.specs.Bytes.{Bytes, same}
+use Rattle.std.specs.Char.{is_ascii_hexdigit}
+use Rattle.std.specs.Str.{bytes_eq}
+use Rattle.text.specs.Bytes.{Bytes}
 
 -- What stands between the spaces; the first part goes behind a word that has begun. Two spaces in a row have an empty word between them.
 abbrev pub cut_behind : Bytes → Bytes → List Bytes
@@ -13,7 +15,7 @@ cut line = cut_behind [] line
 
 -- a hexadecimal digit and its value
 abbrev pub is_hex : ℕ → Bool
-is_hex b = cond (nat_le 48 b && nat_le b 57) true (cond (nat_le 97 b && nat_le b 102) true (nat_le 65 b && nat_le b 70))
+is_hex b = is_ascii_hexdigit b
 
 abbrev pub hex_value : ℕ → ℕ
 hex_value b = cond (nat_le b 57) (b - 48) (cond (nat_le b 70) (b - 55) (b - 87))
@@ -61,4 +63,4 @@ number_of (b ∷ t) = number_from (Some 0) (b ∷ t)
 
 -- A size: `full`, or a number.
 abbrev pub size_of : ℕ → Bytes → Option ℕ
-size_of full w = cond (same w (codes "full")) (Some full) (number_of w)
+size_of full w = cond (bytes_eq w (codes "full")) (Some full) (number_of w)

@@ -2,6 +2,11 @@
 use crate::word::Word;
 use keys::MetadataFile;
 
+// How many slots and bytes a shelf of full size has.
+pub const FULL_SLOTS: usize = 4096;
+
+pub const FULL_BYTES: usize = 4_194_304;
+
 // One of the two fences of a pile: above the mount, or below it.
 #[derive(Clone, Copy, PartialEq, Eq, Debug)]
 pub enum Side {

@@ -3,6 +3,7 @@
 
 pub mod call;
 mod calls;
+mod numbers;
 mod split;
 pub mod word;
 

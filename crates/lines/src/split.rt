@@ -9,15 +9,8 @@ pub fn words(heap: Global, line: &[u8]) -> Result<Vec<Vec<u8>>, AllocError>
     ensures { IfOk result (λ v. map vec_items v.items ≡ cut line.now) }
 {
     let mut words = Vec::new(heap);
-    let mut word = Vec::new(heap);
-    for b in line {
-        if *b != b' ' {
-            word.push(*b)?;
-            continue;
-        }
-        words.push(word)?;
-        word = Vec::new(heap);
+    for word in line.split(|b| *b == b' ') {
+        words.push(Vec::from_slice(heap, word)?)?;
     }
-    words.push(word)?;
     Ok(words)
 }

@@ -1,33 +1,60 @@
--- What one byte adds to what is printed. Assumes nothing.
-use Rattle.std.proofs.Common.{◌≡◌, ℕ, zero, suc, ◌+◌, ◌-◌, ◌<◌, ◌≤◌, [], ◌∷◌, ◌++◌, length, get_or, drop, sym, refl, ap, ◌∙◌, append_assoc, append-nil, add-one, arith, drop-cons}
-use Rattle.std.proofs.lemmas.List.{drop_all}
+-- What one sequence adds to what is printed. Assumes nothing.
+use Rattle.std.proofs.Common.{◌≡◌, ℕ, zero, suc, ◌-◌, ◌≤◌, Bool, true, false, cond, ◌&&◌, Option, List, [], ◌∷◌, ◌++◌, length, get_or, take, drop, sym, refl, ap, ◌∙◌, subst, append_assoc, arith}
+use Rattle.std.proofs.lemmas.List.{take_rest}
 use Rattle.text.specs.Bytes.{Bytes}
-use Rattle.text.specs.Utf8.{sequence_length}
-use Rattle.printing.specs.Shown.{first, shown_in}
+use Rattle.text.specs.Utf8.{Range, inside, of_row, rows, length_in, sequence_length, unless_zero}
+use borrow.Author.Tests.{clash}
+use Rattle.printing.specs.Shown.{first, shown, shown_in}
 
-behind : (k b : ℕ) (t : Bytes) → 0 < k → shown_in k (b ∷ t) ≡ b ∷ shown_in (k - 1) t
-behind zero b t h = absurd (omega arith)
-behind (suc k) b t h = ap (λ m. b ∷ shown_in m t) (let e : k ≡ suc k - 1 = omega arith in e)
+-- ---- no sequence is longer than what it stands in
 
-cut : (s : Bytes) (i : ℕ) → i < length s → drop i s ≡ get_or s i 0 ∷ drop (i + 1) s
-cut s i h = drop-cons s i 0 h ∙ ap (λ m. get_or s i 0 ∷ drop m s) (sym (add-one i))
+second : (a b : Bool) → (a && b) ≡ true → b ≡ true
+second true b e = e
+second false b e = absurd (clash e)
 
-module _ (s : Bytes) (i : ℕ) (h : i < length s) where
-  pub next-inside : (k : ℕ) → 0 < k → shown_in k (drop i s) ≡ (get_or s i 0 ∷ []) ++ shown_in (k - 1) (drop (i + 1) s)
-  next-inside k p = ap (shown_in k) (cut s i h) ∙ behind k _ _ p
+fit_le : (row : List Range) (t : Bytes) → of_row row (take (length row) t) ≡ true → length row ≤ length t
+fit_le [] t e = omega arith
+fit_le (r ∷ row) [] e = absurd (clash e)
+fit_le (r ∷ row) (b ∷ t) e =
+    let i : length row ≤ length t = fit_le row t (second (inside r b) (of_row row (take (length row) t)) e) in omega arith
 
-  pub next_fresh : (k n : ℕ) → k ≤ 0 → n ≡ sequence_length (drop i s) → shown_in k (drop i s) ≡ first n (get_or s i 0) ++ shown_in (n - 1) (drop (i + 1) s)
-  next_fresh k n z e =
-      let none : k ≡ 0 = omega arith in
-      let is : sequence_length (get_or s i 0 ∷ drop (i + 1) s) ≡ n = ap sequence_length (sym (cut s i h)) ∙ sym e in
-      ap (λ m. shown_in m (drop i s)) none ∙ ap (shown_in 0) (cut s i h) ∙ ap (λ m. first m (get_or s i 0) ++ shown_in (m - 1) (drop (i + 1) s)) is
+length_le : (ms : List (List Range)) (t : Bytes) → length_in ms t ≤ length t
+length_le [] t = omega arith
+length_le (row ∷ more) t = by (of_row row (take (length row) t)) refl (length_le more t)
+  where
+    by : (x : Bool) → of_row row (take (length row) t) ≡ x → length_in more t ≤ length t → cond x (length row) (length_in more t) ≤ length t
+    by true e rest = fit_le row t e
+    by false e rest = rest
 
-pub go_on : (out new piece rest old all : Bytes) → new ≡ out ++ piece → old ≡ piece ++ rest → out ++ old ≡ all → new ++ rest ≡ all
-go_on out new piece rest old all e f h = ap (λ l. l ++ rest) e ∙ append_assoc out piece rest ∙ ap (λ l. out ++ l) (sym f) ∙ h
+sequence_le : (t : Bytes) → sequence_length t ≤ length t
+unfolding sequence_length
+sequence_le t = length_le rows t
 
-nothing_in : (k : ℕ) → shown_in k [] ≡ []
-nothing_in zero = refl
-nothing_in (suc k) = refl
+-- ---- one sequence more
 
-pub at_end : (out s all : Bytes) (i k : ℕ) → length s ≤ i → out ++ shown_in k (drop i s) ≡ all → out ≡ all
-at_end out s all i k h e = sym (append-nil out) ∙ ap (λ l. out ++ l) (sym (ap (shown_in k) (drop_all i s h) ∙ nothing_in k)) ∙ e
+-- what is left of a sequence stands as it is
+as_is : (k : ℕ) (t : Bytes) → k ≤ length t → shown_in k t ≡ take k t ++ shown (drop k t)
+as_is zero t h = refl
+as_is (suc k) [] h = absurd (omega arith)
+as_is (suc k) (b ∷ t) h = ap (λ l. b ∷ l) (as_is k t (omega arith))
+
+-- what stands behind the first byte
+abbrev pub tail : Bytes → Bytes
+tail s = take (length s - 1) (drop 1 s)
+
+-- a sequence ends where the bytes do, or before
+pub ends : (s : Bytes) (n k : ℕ) → 1 ≤ length s → n ≡ sequence_length s → k ≡ n - 1 → k ≤ length (tail s)
+ends [] n k h e d = absurd (omega arith)
+ends (b ∷ t) n k h e d = let le = sequence_le (b ∷ t) in let whole = ap length (take_rest (b ∷ t) 1) in omega arith
+
+-- a sequence behind what was printed, with what is behind it
+pub one_more : (out begun new s more next : Bytes) (o : Option ℕ) (n k : ℕ) → 1 ≤ length s → o ≡ unless_zero (sequence_length s) → n ≡ sequence_length s → k ≡ n - 1 → begun ≡ out ++ first o (get_or s 0 0) → more ≡ take k (tail s) → next ≡ drop k (tail s) → new ≡ begun ++ more → new ++ shown next ≡ out ++ shown s
+one_more out begun new [] more next o n k h i e d f p q g = absurd (omega arith)
+one_more out begun new (b ∷ t) more next o n k h i e d f p q g =
+    let whole = take_rest (b ∷ t) 1 in
+    let le = subst (λ l. k ≤ length l) whole (ends (b ∷ t) n k h e d) in
+    ap (λ l. l ++ shown next) g ∙ append_assoc begun more (shown next)
+    ∙ ap (λ l. begun ++ (l ++ shown next)) (p ∙ ap (take k) whole) ∙ ap (λ l. begun ++ (take k t ++ shown l)) (q ∙ ap (drop k) whole)
+    ∙ ap (λ l. begun ++ l) (sym (as_is k t le))
+    ∙ ap (λ l. l ++ shown_in k t) f ∙ append_assoc out (first o b) (shown_in k t)
+    ∙ ap (λ m. out ++ (first o b ++ shown_in m t)) d ∙ ap (λ m. out ++ (first o b ++ shown_in (m - 1) t)) e ∙ ap (λ m. out ++ (first m b ++ shown_in (sequence_length (b ∷ t) - 1) t)) i

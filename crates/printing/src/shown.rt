@@ -8,17 +8,13 @@ use std::alloc::AllocError;
 pub fn push_shown(out: &mut Vec<u8>, bytes: &[u8]) -> Result<(), AllocError>
     ensures { OnOk result (out.new.items ≡ out.old.items ++ shown bytes.now) }
 {
-    // how many bytes are left of a sequence that has begun
-    let mut inside = 0;
-    for i in 0..bytes.len() {
-        if inside > 0 {
-            out.push(bytes[i])?;
-            inside -= 1;
-        } else {
-            let length = text::sequence_len(bytes, i).unwrap_or(0);
-            push_first(out, bytes[i], length)?;
-            inside = length.saturating_sub(1);
-        }
+    let mut rest = bytes;
+    while let [byte, behind @ ..] = rest {
+        let length = text::sequence_len(rest, 0);
+        push_first(out, *byte, length)?;
+        let (more, next) = behind.split_at(length.unwrap_or(0).saturating_sub(1));
+        out.extend_from_slice(more)?;
+        rest = next;
     }
     Ok(())
 }
@@ -33,11 +29,11 @@ pub fn push_quoted(out: &mut Vec<u8>, bytes: &[u8]) -> Result<(), AllocError>
     Ok(())
 }
 
-// Adds a byte with which a sequence of the length begins, or that is part of none, where that is 0.
-fn push_first(out: &mut Vec<u8>, byte: u8, length: usize) -> Result<(), AllocError>
+// Adds a byte with which a sequence of the length begins, or that is part of none.
+fn push_first(out: &mut Vec<u8>, byte: u8, length: Option<usize>) -> Result<(), AllocError>
     ensures { OnOk result (out.new.items ≡ out.old.items ++ first length byte) }
 {
-    if length == 0 || byte < 0x20 {
+    if length.is_none() || byte < 0x20 {
         out.extend_from_slice(&[b'\\', b'x', hex_digit(byte / 16), hex_digit(byte % 16)])?;
     } else if byte == b'"' || byte == b'\\' {
         out.extend_from_slice(&[b'\\', byte])?;

@@ -1,8 +1,8 @@
 -- The lines that a script's calls are answered with.
 -- Assumes nothing.
-use Rattle.std.specs.Prelude.{ℕ, [], ◌∷◌, ◌++◌, take, Some, None, Ok, Err, codes, decimal, Option, Result}
+use Rattle.std.specs.Prelude.{◌≡◌, ℕ, ◌<◌, true, [], ◌∷◌, ◌++◌, length, take, Some, None, Ok, Err, codes, decimal, Option, Result, is_some}
 use Rattle.text.specs.Bytes.{Bytes}
-use Rattle.text.specs.Faults.{layer_name}
+use Rattle.text.specs.Faults.{fault_text}
 use Rattle.text.specs.declared.fault.FaultReport.{FaultReport}
 use Rattle.printing.specs.Shown.{quoted}
 
@@ -20,7 +20,7 @@ bytes_line t = codes "ok " ++ (quoted t ++ (10 ∷ []))
 
 -- `fault NUMBER LAYER POSITION`
 abbrev pub fault_line : FaultReport → Bytes
-fault_line f = codes "fault " ++ (decimal f.number ++ (codes " " ++ (layer_name f.layer ++ (codes " " ++ (decimal f.position ++ (10 ∷ []))))))
+fault_line f = fault_text f ++ (10 ∷ [])
 
 -- `unknown` and the number of the line
 abbrev pub unknown_line : ℕ → Bytes
@@ -35,3 +35,7 @@ abbrev pub found_line : {E : Type 0} → (E → FaultReport) → Bytes → Resul
 found_line told buffer (Ok None) = none_line
 found_line told buffer (Ok (Some n)) = bytes_line (take n buffer)
 found_line told buffer (Err e) = fault_line (told e)
+
+-- where a line asks for something else, it is no longer left
+abbrev pub FewerLeft : {A : Type 0} → Option A → Bytes → Bytes → Type 0
+FewerLeft other before after = is_some other ≡ true → length after < length before

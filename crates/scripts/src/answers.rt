@@ -4,90 +4,91 @@ ghost use Rattle.scripts.specs.Lines.{ok_line, none_line, bytes_line, fault_line
 
 use printing::push_quoted;
 use std::alloc::{AllocError, Global};
-use text::Fault;
+use text::{Fault, FaultReport};
 
-pub(crate) fn push_ok(out: &mut Vec<u8>) -> Result<(), AllocError>
-    ensures { OnOk result (out.new.items ≡ out.old.items ++ ok_line) }
-{
-    out.extend_from_slice(b"ok\n")
+// The answers so far, a line each or more.
+#[derive(Drop)]
+pub(crate) struct Answers {
+    lines: Vec<u8>,
 }
 
-pub(crate) fn push_none(out: &mut Vec<u8>) -> Result<(), AllocError>
-    ensures { OnOk result (out.new.items ≡ out.old.items ++ none_line) }
-{
-    out.extend_from_slice(b"none\n")
-}
-
-pub(crate) fn push_bytes(out: &mut Vec<u8>, bytes: &[u8]) -> Result<(), AllocError>
-    ensures { OnOk result (out.new.items ≡ out.old.items ++ bytes_line bytes.now) }
-{
-    out.extend_from_slice(b"ok ")?;
-    push_quoted(out, bytes)?;
-    out.push(b'\n')?;
-    Ok(())
-}
-
-pub(crate) fn push_unknown(heap: Global, out: &mut Vec<u8>, number: usize) -> Result<(), AllocError>
-    ensures { OnOk result (out.new.items ≡ out.old.items ++ unknown_line number) }
-{
-    let line = format!(in heap; "unknown {number}\n")?;
-    out.extend_from_slice(line.as_bytes())
-}
-
-pub(crate) fn push_fault<F: Fault>(
-    heap: Global,
-    out: &mut Vec<u8>,
-    fault: &F,
-) -> Result<(), AllocError>
-    ensures { OnOk result (out.new.items ≡ out.old.items ++ fault_line (F.Fault.told fault.now)) }
-{
-    let told = fault.report();
-    let number = told.number;
-    let layer = told.layer.name();
-    let position = told.position;
-    let line = format!(in heap; "fault {number} {layer} {position}\n")?;
-    out.extend_from_slice(line.as_bytes())
-}
-
-// The answer of a call that gives nothing.
-pub(crate) fn push_done<F: Fault + Drop>(
-    heap: Global,
-    out: &mut Vec<u8>,
-    answer: Result<(), F>,
-) -> Result<(), AllocError>
-    ensures { OnOk result (out.new.items ≡ out.old.items ++ done_line F.Fault.told answer) }
-{
-    match answer {
-        Ok(()) => push_ok(out),
-        Err(fault) => push_fault(heap, out, &fault),
+impl Answers {
+    pub(crate) fn new(heap: Global) -> Answers {
+        Answers {
+            lines: Vec::new(heap),
+        }
     }
-}
 
-// The answer of a call that gives bytes at the front of a buffer, or none.
-pub(crate) fn push_found<F: Fault + Drop>(
-    heap: Global,
-    out: &mut Vec<u8>,
-    buffer: &[u8],
-    answer: Result<Option<usize>, F>,
-) -> Result<(), AllocError>
-    ensures { OnOk result (out.new.items ≡ out.old.items ++ found_line F.Fault.told buffer.now answer) }
-{
-    match answer {
-        Ok(found) => match found {
-            None => push_none(out),
-            Some(n) => push_bytes(out, front(buffer, n)),
-        },
-        Err(fault) => push_fault(heap, out, &fault),
+    pub(crate) fn into_bytes(self) -> Vec<u8> {
+        self.lines
     }
-}
 
-// The first bytes of a buffer, at most so many.
-fn front(buffer: &[u8], n: usize) -> &[u8]
-    ensures { result.now ≡ take n buffer.now }
-{
-    if n < buffer.len() {
-        &buffer[0..n]
-    } else {
-        buffer
+    pub(crate) fn push_text(&mut self, text: &[u8]) -> Result<(), AllocError>
+        ensures { OnOk result (self.new.lines.items ≡ self.old.lines.items ++ text.now) }
+    {
+        self.lines.extend_from_slice(text)
+    }
+
+    pub(crate) fn push_ok(&mut self) -> Result<(), AllocError>
+        ensures { OnOk result (self.new.lines.items ≡ self.old.lines.items ++ ok_line) }
+    {
+        self.push_text(b"ok\n")
+    }
+
+    pub(crate) fn push_none(&mut self) -> Result<(), AllocError>
+        ensures { OnOk result (self.new.lines.items ≡ self.old.lines.items ++ none_line) }
+    {
+        self.push_text(b"none\n")
+    }
+
+    pub(crate) fn push_bytes(&mut self, bytes: &[u8]) -> Result<(), AllocError>
+        ensures { OnOk result (self.new.lines.items ≡ self.old.lines.items ++ bytes_line bytes.now) }
+    {
+        self.lines.extend_from_slice(b"ok ")?;
+        push_quoted(&mut self.lines, bytes)?;
+        self.lines.push(b'\n')?;
+        Ok(())
+    }
+
+    pub(crate) fn push_unknown(&mut self, number: usize) -> Result<(), AllocError>
+        ensures { OnOk result (self.new.lines.items ≡ self.old.lines.items ++ unknown_line number) }
+    {
+        let line = format!(in *self.lines.allocator(); "unknown {number}\n")?;
+        self.push_text(line.as_bytes())
+    }
+
+    pub(crate) fn push_fault(&mut self, fault: FaultReport) -> Result<(), AllocError>
+        ensures { OnOk result (self.new.lines.items ≡ self.old.lines.items ++ fault_line fault) }
+    {
+        let line = format!(in *self.lines.allocator(); "{fault}\n")?;
+        self.push_text(line.as_bytes())
+    }
+
+    // The answer of a call that gives nothing.
+    pub(crate) fn push_done<F: Fault + Drop>(
+        &mut self,
+        answer: Result<(), F>,
+    ) -> Result<(), AllocError>
+        ensures { OnOk result (self.new.lines.items ≡ self.old.lines.items ++ done_line F.Fault.told answer) }
+    {
+        match answer {
+            Ok(()) => self.push_ok(),
+            Err(fault) => self.push_fault(fault.report()),
+        }
+    }
+
+    // The answer of a call that gives bytes at the front of a buffer, or none.
+    pub(crate) fn push_found<F: Fault + Drop>(
+        &mut self,
+        buffer: &[u8],
+        answer: Result<Option<usize>, F>,
+    ) -> Result<(), AllocError>
+        ensures { OnOk result (self.new.lines.items ≡ self.old.lines.items ++ found_line F.Fault.told buffer.now answer) }
+    {
+        match answer {
+            Ok(Some(n)) => self.push_bytes(&buffer[..n.min(buffer.len())]),
+            Ok(None) => self.push_none(),
+            Err(fault) => self.push_fault(fault.report()),
+        }
     }
 }

@@ -2,8 +2,10 @@
 #![tactic(auto)]
 
 mod answers;
+mod line;
 mod pile;
 mod run;
+mod session;
 mod store_calls;
 mod texts;
 

@@ -1,19 +1,17 @@
 // A script, line by line.
-ghost use Rattle.std.specs.Prelude.{◌≡◌, ℕ, ◌<◌, ◌≤◌, length, ◌≢◌, slice_index};
+ghost use Rattle.std.specs.Prelude.{IfOk};
+ghost use Rattle.scripts.specs.Lines.{FewerLeft};
 
-use crate::answers::{push_fault, push_ok, push_unknown};
+use crate::line::Lines;
 use crate::pile::Pile;
+use crate::session::Session;
 use crate::texts;
 use images::Image;
-use lines::call::Call;
-use lines::word::Word;
+use lines::call::{Call, FULL_BYTES, FULL_SLOTS};
 use shelves::{Shelf, Slot};
 use std::alloc::{AllocError, Global};
 use stores::WriteStore;
-
-const FULL_SLOTS: usize = 4096;
-
-const FULL_BYTES: usize = 4_194_304;
+use text::Fault;
 
 // What a pile lies on: a shelf of so many slots and bytes, or an image.
 #[derive(Drop)]
@@ -22,174 +20,140 @@ enum Base {
     Image(Vec<u8>),
 }
 
-// How far a script has been read: where the next line begins, and how many lines were before it.
+// A script that is run: what is left of it, and the answers so far.
 #[derive(Drop)]
-struct Place {
-    at: usize,
-    lines: usize,
+struct Run<'a> {
+    script: &'a [u8],
+    lines: Lines<'a>,
+    session: Session,
 }
 
 // The answers to a script's calls, in a line each or more. At the start there is an empty shelf of full size, mounted at `/`, with all rows lowered.
 pub fn report(heap: Global, script: &[u8]) -> Result<Vec<u8>, AllocError> {
-    let mut out = Vec::new(heap);
-    let mut place = Place { at: 0, lines: 0 };
-    let mut room = vec![in heap; 0u8; script.len().max(FULL_BYTES)]?;
-    let mut base = Base::Shelf(FULL_SLOTS, FULL_BYTES);
-    for _ in 0..u64::MAX {
-        let next = on_base(
-            heap,
-            base,
-            script,
-            &mut place,
-            room.as_mut_slice(),
-            &mut out,
-        )?;
-        match next {
-            Some(other) => base = other,
-            None => break,
-        }
-    }
-    Ok(out)
-}
-
-// The lines up to one that asks for another base, or to the last.
-fn on_base(
-    heap: Global,
-    base: Base,
-    script: &[u8],
-    place: &mut Place,
-    room: &mut [u8],
-    out: &mut Vec<u8>,
-) -> Result<Option<Base>, AllocError> {
-    match base {
-        Base::Shelf(slots, bytes) => on_shelf(heap, slots, bytes, script, place, room, out),
-        Base::Image(bytes) => {
-            let mut image = Image::new(bytes.as_slice());
-            on_store(heap, &mut image, script, place, room, out)
-        }
-    }
-}
-
-// No script sets more pairs than it has bytes, nor longer values, so more slots and bytes than that change no answer.
-fn on_shelf(
-    heap: Global,
-    slots: usize,
-    bytes: usize,
-    script: &[u8],
-    place: &mut Place,
-    room: &mut [u8],
-    out: &mut Vec<u8>,
-) -> Result<Option<Base>, AllocError> {
-    let slots = slots.min(script.len().max(FULL_SLOTS));
-    let bytes = bytes.min(script.len().max(FULL_BYTES));
-    let mut slots = vec![in heap; Slot::empty(); slots]?;
-    let mut bytes = vec![in heap; 0u8; bytes]?;
-    let mut shelf = Shelf::new(slots.as_mut_slice(), bytes.as_mut_slice());
-    on_store(heap, &mut shelf, script, place, room, out)
-}
-
-fn on_store<S: WriteStore>(
-    heap: Global,
-    store: &mut S,
-    script: &[u8],
-    place: &mut Place,
-    room: &mut [u8],
-    out: &mut Vec<u8>,
-) -> Result<Option<Base>, AllocError> {
-    let mut pile = Pile::new();
-    for _ in 0..u64::MAX {
-        if place.at >= script.len() {
-            break;
-        }
-        let end = line_end(script, place.at);
-        let line = &script[place.at..end];
-        place.at = end + 1;
-        place.lines = place.lines.saturating_add(1);
-        let next = answer(heap, store, &mut pile, line, place.lines, room, out)?;
-        if next.is_some() {
-            return Ok(next);
-        }
-    }
-    Ok(None)
-}
-
-// Where the line that begins at an index ends: at the next line feed, or where the script does.
-fn line_end(script: &[u8], from: usize) -> usize
-    requires { from < length script.now }
-    ensures within { (from ≤ result) × (result ≤ length script.now) }
-    ensures inside { (k : ℕ) → from ≤ k → k < result → slice_index script.now k ≢ 10 }
-    ensures ends { result < length script.now → slice_index script.now result ≡ 10 }
-{
-    let mut end = from;
-    while end < script.len() && script[end] != b'\n' {
-        end += 1;
-    }
-    end
-}
-
-// Answers one line; a line that asks for another base answers with it.
-fn answer<S: WriteStore>(
-    heap: Global,
-    store: &mut S,
-    pile: &mut Pile,
-    line: &[u8],
-    number: usize,
-    room: &mut [u8],
-    out: &mut Vec<u8>,
-) -> Result<Option<Base>, AllocError> {
-    if line.len() > 0 && line[0] == b'%' {
-        return Ok(None);
-    }
-    let words = lines::words(heap, line)?;
-    let Some(call) = lines::parse(words.as_slice()) else {
-        push_unknown(heap, out, number)?;
-        return Ok(None);
+    let mut run = Run {
+        script,
+        lines: Lines::new(script),
+        session: Session::new(heap, script.len().max(FULL_BYTES))?,
     };
-    match call {
-        Call::Shelf(slots, bytes) => {
-            push_ok(out)?;
-            Ok(Some(Base::Shelf(slots, bytes)))
+    let mut base = Base::Shelf(FULL_SLOTS, FULL_BYTES);
+    while let Some(other) = run.on_base(base)? {
+        base = other;
+    }
+    Ok(run.session.answers.into_bytes())
+}
+
+impl Run<'_> {
+    // The lines up to one that asks for another base, or to the last.
+    fn on_base(&mut self, base: Base) -> Result<Option<Base>, AllocError>
+        ensures { IfOk result (λ other. FewerLeft other self.old.lines.rest.now self.new.lines.rest.now) }
+    {
+        match base {
+            Base::Shelf(slots, bytes) => self.on_shelf(slots, bytes),
+            Base::Image(bytes) => self.on_store(&mut Image::new(bytes.as_slice())),
         }
-        Call::Image(bytes) => image(heap, out, bytes),
-        _ => {
-            perform(heap, store, pile, call, room, out)?;
-            Ok(None)
+    }
+
+    // No script sets more pairs than it has bytes, nor longer values, so more slots and bytes than that change no answer.
+    fn on_shelf(&mut self, slots: usize, bytes: usize) -> Result<Option<Base>, AllocError>
+        ensures { IfOk result (λ other. FewerLeft other self.old.lines.rest.now self.new.lines.rest.now) }
+    {
+        let heap = self.session.heap;
+        let slots = slots.min(self.script.len().max(FULL_SLOTS));
+        let bytes = bytes.min(self.script.len().max(FULL_BYTES));
+        let mut slots = vec![in heap; Slot::empty(); slots]?;
+        let mut bytes = vec![in heap; 0u8; bytes]?;
+        let mut shelf = Shelf::new(slots.as_mut_slice(), bytes.as_mut_slice());
+        self.on_store(&mut shelf)
+    }
+
+    fn on_store<S: WriteStore>(&mut self, store: &mut S) -> Result<Option<Base>, AllocError>
+        ensures { IfOk result (λ other. FewerLeft other self.old.lines.rest.now self.new.lines.rest.now) }
+    {
+        let mut pile = Pile::new();
+        while let Some((number, line)) = self.lines.next_line() {
+            let other = self.session.answer(store, &mut pile, number, line)?;
+            if other.is_some() {
+                return Ok(other);
+            }
         }
+        Ok(None)
     }
 }
 
-// An image of the bytes, if they are one.
-fn image(heap: Global, out: &mut Vec<u8>, bytes: Word<'_>) -> Result<Option<Base>, AllocError> {
-    let bytes = bytes.bytes(heap)?;
-    match images::check(bytes.as_slice()) {
-        Ok(_) => {
-            push_ok(out)?;
-            Ok(Some(Base::Image(bytes)))
+impl Session {
+    // Answers one line; a line that asks for another base answers with it.
+    fn answer<S: WriteStore>(
+        &mut self,
+        store: &mut S,
+        pile: &mut Pile,
+        number: usize,
+        line: &[u8],
+    ) -> Result<Option<Base>, AllocError> {
+        if line.starts_with(b"%") {
+            return Ok(None);
         }
-        Err(fault) => {
-            push_fault(heap, out, &fault)?;
-            Ok(None)
+        let words = lines::words(self.heap, line)?;
+        let Some(call) = lines::parse(words.as_slice()) else {
+            self.answers.push_unknown(number)?;
+            return Ok(None);
+        };
+        match call {
+            Call::Shelf(slots, bytes) => {
+                self.answers.push_ok()?;
+                Ok(Some(Base::Shelf(slots, bytes)))
+            }
+            Call::Image(bytes) => {
+                let bytes = bytes.bytes(self.heap)?;
+                self.image(bytes)
+            }
+            _ => {
+                self.perform(store, pile, call)?;
+                Ok(None)
+            }
         }
     }
-}
 
-// A call that leaves the base in its place.
-fn perform<S: WriteStore>(
-    heap: Global,
-    store: &mut S,
-    pile: &mut Pile,
-    call: Call<'_>,
-    room: &mut [u8],
-    out: &mut Vec<u8>,
-) -> Result<(), AllocError> {
-    match call {
-        Call::Name(text) => texts::name(heap, out, text),
-        Call::Path(text) => texts::path(heap, out, text),
-        Call::Parent(text) => texts::parent(heap, out, text),
-        Call::Join(base, relative) => texts::join(heap, out, base, relative),
-        Call::Compare(one, two) => texts::compare(heap, out, one, two),
-        Call::Key(file, path) => texts::key(heap, out, file, path),
-        Call::DataKey(path, chunk) => texts::data_key(heap, out, path, chunk),
-        _ => pile.perform(heap, store, call, room, out),
+    // An image of the bytes, if they are one.
+    fn image(&mut self, bytes: Vec<u8>) -> Result<Option<Base>, AllocError> {
+        match images::check(bytes.as_slice()) {
+            Ok(_) => {
+                self.answers.push_ok()?;
+                Ok(Some(Base::Image(bytes)))
+            }
+            Err(fault) => {
+                self.answers.push_fault(fault.report())?;
+                Ok(None)
+            }
+        }
+    }
+
+    // A call that leaves the base in its place.
+    fn perform<S: WriteStore>(
+        &mut self,
+        store: &mut S,
+        pile: &mut Pile,
+        call: Call<'_>,
+    ) -> Result<(), AllocError> {
+        let heap = self.heap;
+        let given = match call {
+            Call::Name(text) => texts::name(text.bytes(heap)?.as_slice()),
+            Call::Path(text) => texts::path(text.bytes(heap)?.as_slice()),
+            Call::Parent(text) => texts::parent(text.bytes(heap)?.as_slice()),
+            Call::Join(base, relative) => texts::join(
+                base.bytes(heap)?.as_slice(),
+                relative.bytes(heap)?.as_slice(),
+            ),
+            Call::Compare(one, two) => texts::compare(
+                one.bytes(heap)?.as_slice(),
+                two.bytes(heap)?.as_slice(),
+            ),
+            Call::Key(file, path) => texts::key(file, path.bytes(heap)?.as_slice()),
+            Call::DataKey(path, chunk) => texts::data_key(
+                path.bytes(heap)?.as_slice(),
+                chunk.bytes(heap)?.as_slice(),
+            ),
+            _ => return pile.perform(self, store, call),
+        };
+        texts::push_given(&mut self.answers, given)
     }
 }

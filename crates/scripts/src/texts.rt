@@ -1,117 +1,79 @@
 // Calls on names, paths and keys, which need no store.
-use crate::answers::{push_bytes, push_fault, push_none, push_ok};
-use keys::{MetadataFile, StoreFault, StoreKey};
-use lines::word::Word;
-use paths::{NodeName, NodePath, PathFault};
-use std::alloc::{AllocError, Global};
+use crate::answers::Answers;
+use keys::{MetadataFile, StoreKey};
+use paths::{NodeName, NodePath};
+use std::alloc::AllocError;
 use std::cmp::Ordering;
+use text::{Fault, FaultReport};
 
-pub(crate) fn name(heap: Global, out: &mut Vec<u8>, text: Word<'_>) -> Result<(), AllocError> {
-    let text = text.bytes(heap)?;
-    match NodeName::new(text.as_slice()) {
-        Ok(_) => push_ok(out),
-        Err(fault) => push_fault(heap, out, &fault),
-    }
+// What such a call gives.
+#[derive(Clone, Copy)]
+pub(crate) enum Given {
+    Done,
+    Nothing,
+    Path(NodePath),
+    Key(StoreKey),
+    Order(Ordering),
 }
 
-// A path, or why there is none.
-fn push_path(
-    heap: Global,
-    out: &mut Vec<u8>,
-    answer: Result<NodePath, PathFault>,
+pub(crate) fn push_given(
+    answers: &mut Answers,
+    given: Result<Given, FaultReport>,
 ) -> Result<(), AllocError> {
-    match answer {
-        Ok(path) => push_bytes(out, path.as_bytes()),
-        Err(fault) => push_fault(heap, out, &fault),
+    match given {
+        Ok(Given::Done) => answers.push_ok(),
+        Ok(Given::Nothing) => answers.push_none(),
+        Ok(Given::Path(path)) => answers.push_bytes(path.as_bytes()),
+        Ok(Given::Key(key)) => answers.push_bytes(key.as_bytes()),
+        Ok(Given::Order(order)) => answers.push_text(order_line(order)),
+        Err(fault) => answers.push_fault(fault),
     }
 }
 
-fn push_key(
-    heap: Global,
-    out: &mut Vec<u8>,
-    answer: Result<StoreKey, StoreFault>,
-) -> Result<(), AllocError> {
-    match answer {
-        Ok(key) => push_bytes(out, key.as_bytes()),
-        Err(fault) => push_fault(heap, out, &fault),
+fn order_line(order: Ordering) -> &'static [u8] {
+    match order {
+        Ordering::Less => b"less\n",
+        Ordering::Equal => b"equal\n",
+        Ordering::Greater => b"greater\n",
     }
 }
 
-pub(crate) fn path(heap: Global, out: &mut Vec<u8>, text: Word<'_>) -> Result<(), AllocError> {
-    let text = text.bytes(heap)?;
-    push_path(heap, out, NodePath::new(text.as_slice()))
+// The same, its refusal as it is reported.
+fn reported<T, F: Fault + Drop>(answer: Result<T, F>) -> Result<T, FaultReport> {
+    answer.map_err(|fault| fault.report())
 }
 
-pub(crate) fn parent(heap: Global, out: &mut Vec<u8>, text: Word<'_>) -> Result<(), AllocError> {
-    let text = text.bytes(heap)?;
-    match NodePath::new(text.as_slice()) {
-        Err(fault) => push_fault(heap, out, &fault),
-        Ok(path) => match path.parent() {
-            None => push_none(out),
-            Some(parent) => push_bytes(out, parent.as_bytes()),
-        },
-    }
+pub(crate) fn name(text: &[u8]) -> Result<Given, FaultReport> {
+    reported(NodeName::new(text))?;
+    Ok(Given::Done)
 }
 
-pub(crate) fn join(
-    heap: Global,
-    out: &mut Vec<u8>,
-    base: Word<'_>,
-    relative: Word<'_>,
-) -> Result<(), AllocError> {
-    let base = base.bytes(heap)?;
-    let relative = relative.bytes(heap)?;
-    match NodePath::new(base.as_slice()) {
-        Err(fault) => push_fault(heap, out, &fault),
-        Ok(path) => push_path(heap, out, path.join(relative.as_slice())),
-    }
+pub(crate) fn path(text: &[u8]) -> Result<Given, FaultReport> {
+    Ok(Given::Path(reported(NodePath::new(text))?))
 }
 
-fn two_paths(one: &[u8], two: &[u8]) -> Result<Ordering, PathFault> {
-    let one = NodePath::new(one)?;
-    let two = NodePath::new(two)?;
-    Ok(one.cmp(&two))
+pub(crate) fn parent(text: &[u8]) -> Result<Given, FaultReport> {
+    let path = reported(NodePath::new(text))?;
+    Ok(path.parent().map_or(Given::Nothing, Given::Path))
 }
 
-pub(crate) fn compare(
-    heap: Global,
-    out: &mut Vec<u8>,
-    one: Word<'_>,
-    two: Word<'_>,
-) -> Result<(), AllocError> {
-    let one = one.bytes(heap)?;
-    let two = two.bytes(heap)?;
-    match two_paths(one.as_slice(), two.as_slice()) {
-        Err(fault) => push_fault(heap, out, &fault),
-        Ok(Ordering::Less) => out.extend_from_slice(b"less\n"),
-        Ok(Ordering::Equal) => out.extend_from_slice(b"equal\n"),
-        Ok(Ordering::Greater) => out.extend_from_slice(b"greater\n"),
-    }
+pub(crate) fn join(base: &[u8], relative: &[u8]) -> Result<Given, FaultReport> {
+    let base = reported(NodePath::new(base))?;
+    Ok(Given::Path(reported(base.join(relative))?))
 }
 
-pub(crate) fn key(
-    heap: Global,
-    out: &mut Vec<u8>,
-    file: MetadataFile,
-    path: Word<'_>,
-) -> Result<(), AllocError> {
-    let path = path.bytes(heap)?;
-    match NodePath::new(path.as_slice()) {
-        Err(fault) => push_fault(heap, out, &fault),
-        Ok(path) => push_bytes(out, keys::meta_key(&path, file).as_bytes()),
-    }
+pub(crate) fn compare(one: &[u8], two: &[u8]) -> Result<Given, FaultReport> {
+    let one = reported(NodePath::new(one))?;
+    let two = reported(NodePath::new(two))?;
+    Ok(Given::Order(one.cmp(&two)))
 }
 
-pub(crate) fn data_key(
-    heap: Global,
-    out: &mut Vec<u8>,
-    path: Word<'_>,
-    chunk: Word<'_>,
-) -> Result<(), AllocError> {
-    let path = path.bytes(heap)?;
-    let chunk = chunk.bytes(heap)?;
-    match NodePath::new(path.as_slice()) {
-        Err(fault) => push_fault(heap, out, &fault),
-        Ok(path) => push_key(heap, out, keys::data_key(&path, chunk.as_slice())),
-    }
+pub(crate) fn key(file: MetadataFile, path: &[u8]) -> Result<Given, FaultReport> {
+    let path = reported(NodePath::new(path))?;
+    Ok(Given::Key(keys::meta_key(&path, file)))
+}
+
+pub(crate) fn data_key(path: &[u8], chunk: &[u8]) -> Result<Given, FaultReport> {
+    let path = reported(NodePath::new(path))?;
+    Ok(Given::Key(reported(keys::data_key(&path, chunk))?))
 }

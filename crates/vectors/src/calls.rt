@@ -1,42 +1,64 @@
 // The calls that vectors name, and their answers as text.
-use keys::{MetadataFile, StoreFault, StoreKey, StorePrefix};
-use paths::{NodeName, NodePath, PathFault, PathRow};
+use keys::{MetadataFile, StoreKey, StorePrefix};
+use paths::{NodeName, NodePath, PathRow};
 use std::alloc::{AllocError, Global};
 use std::cmp::Ordering;
-use text::Fault;
+use std::str;
+use text::{Fault, FaultReport};
 
-// Why a call gives no bytes.
-enum Refusal {
-    Path(PathFault),
-    Store(StoreFault),
+// What a call gives.
+#[derive(Clone, Copy)]
+pub(crate) enum Given {
+    Test(bool),
+    Done,
+    Nothing,
+    Path(NodePath),
+    // the last name of a path
+    Name(NodePath),
+    Depth(usize),
+    Key(StoreKey),
+    Prefix(StorePrefix),
+    Order(Ordering),
 }
 
-impl From<PathFault> for Refusal {
-    fn from(fault: PathFault) -> Refusal {
-        Refusal::Path(fault)
+// What the words of a call give, why they are refused, or none for a call that is not known.
+pub(crate) fn answer(words: &[Vec<u8>]) -> Option<Result<Given, FaultReport>> {
+    let (call, rest) = words.split_first()?;
+    let call = str::from_utf8(call.as_slice()).ok()?;
+    match rest {
+        [a] => one(call, a.as_slice()),
+        [a, b] => two(call, a.as_slice(), b.as_slice()),
+        _ => None,
     }
 }
 
-impl From<StoreFault> for Refusal {
-    fn from(fault: StoreFault) -> Refusal {
-        Refusal::Store(fault)
-    }
-}
-
-pub(crate) fn answer(heap: Global, words: &[Vec<u8>]) -> Result<Vec<u8>, AllocError> {
-    match words {
-        [call, a] => one(heap, call.as_slice(), a.as_slice()),
-        [call, a, b] => two(heap, call.as_slice(), a.as_slice(), b.as_slice()),
-        _ => said(heap, "unknown"),
+// What an answer says.
+pub(crate) fn spelled(
+    heap: Global,
+    answer: Option<Result<Given, FaultReport>>,
+) -> Result<Vec<u8>, AllocError> {
+    let Some(given) = answer else {
+        return said(heap, "unknown");
+    };
+    match given {
+        Ok(Given::Test(true)) => said(heap, "yes"),
+        Ok(Given::Test(false)) => said(heap, "no"),
+        Ok(Given::Done) => said(heap, "ok"),
+        Ok(Given::Nothing) => said(heap, "none"),
+        Ok(Given::Path(path)) => granted(heap, path.as_bytes()),
+        Ok(Given::Name(path)) => granted(heap, path.name()),
+        Ok(Given::Depth(depth)) => Ok(format!(in heap; "{depth}")?.into_bytes()),
+        Ok(Given::Key(key)) => granted(heap, key.as_bytes()),
+        Ok(Given::Prefix(prefix)) => granted(heap, prefix.as_bytes()),
+        Ok(Given::Order(Ordering::Less)) => said(heap, "less"),
+        Ok(Given::Order(Ordering::Equal)) => said(heap, "equal"),
+        Ok(Given::Order(Ordering::Greater)) => said(heap, "greater"),
+        Err(fault) => Ok(format!(in heap; "{fault}")?.into_bytes()),
     }
 }
 
 fn said(heap: Global, word: &str) -> Result<Vec<u8>, AllocError> {
     Vec::from_slice(heap, word.as_bytes())
-}
-
-fn yes_or_no(heap: Global, yes: bool) -> Result<Vec<u8>, AllocError> {
-    said(heap, if yes { "yes" } else { "no" })
 }
 
 fn granted(heap: Global, bytes: &[u8]) -> Result<Vec<u8>, AllocError> {
@@ -45,136 +67,87 @@ fn granted(heap: Global, bytes: &[u8]) -> Result<Vec<u8>, AllocError> {
     Ok(out)
 }
 
-fn refused<F: Fault>(heap: Global, fault: &F) -> Result<Vec<u8>, AllocError> {
-    let told = fault.report();
-    let number = told.number;
-    let layer = told.layer.name();
-    let position = told.position;
-    said(
-        heap,
-        format!(in heap; "fault {number} {layer} {position}")?.as_str(),
-    )
+// The same, its refusal as it is reported.
+fn reported<T, F: Fault + Drop>(answer: Result<T, F>) -> Result<T, FaultReport> {
+    answer.map_err(|fault| fault.report())
 }
 
-fn path_answer(heap: Global, answer: Result<NodePath, PathFault>) -> Result<Vec<u8>, AllocError> {
-    match answer {
-        Ok(path) => granted(heap, path.as_bytes()),
-        Err(fault) => refused(heap, &fault),
-    }
-}
-
-fn key_answer(heap: Global, answer: Result<StoreKey, Refusal>) -> Result<Vec<u8>, AllocError> {
-    match answer {
-        Ok(key) => granted(heap, key.as_bytes()),
-        Err(refusal) => match refusal {
-            Refusal::Path(fault) => refused(heap, &fault),
-            Refusal::Store(fault) => refused(heap, &fault),
-        },
-    }
-}
-
-fn one(heap: Global, call: &[u8], a: &[u8]) -> Result<Vec<u8>, AllocError> {
+fn one(call: &str, a: &[u8]) -> Option<Result<Given, FaultReport>> {
     match call {
-        b"text" => yes_or_no(heap, text::is_text(a)),
-        b"name" => match NodeName::new(a) {
-            Ok(_) => said(heap, "ok"),
-            Err(fault) => refused(heap, &fault),
-        },
-        b"path" => path_answer(heap, NodePath::new(a)),
-        b"row" => path_answer(heap, through_row(a)),
-        b"parent" => parent(heap, a),
-        b"last-name" => last_name(heap, a),
-        b"depth" => depth(heap, a),
-        b"is-key" => yes_or_no(heap, keys::is_key(a)),
-        b"is-prefix" => yes_or_no(heap, keys::is_prefix(a)),
-        b"prefix" => prefix(heap, a),
-        b"from-prefix" => from_prefix(heap, a),
-        _ => said(heap, "unknown"),
+        "text" => Some(Ok(Given::Test(text::is_text(a)))),
+        "name" => Some(reported(NodeName::new(a)).map(|_| Given::Done)),
+        "path" => Some(reported(NodePath::new(a)).map(Given::Path)),
+        "row" => Some(row(a)),
+        "parent" => Some(parent(a)),
+        "last-name" => Some(reported(NodePath::new(a)).map(Given::Name)),
+        "depth" => Some(depth(a)),
+        "is-key" => Some(Ok(Given::Test(keys::is_key(a)))),
+        "is-prefix" => Some(Ok(Given::Test(keys::is_prefix(a)))),
+        "prefix" => Some(prefix(a)),
+        "from-prefix" => Some(from_prefix(a)),
+        _ => None,
     }
 }
 
-fn two(heap: Global, call: &[u8], a: &[u8], b: &[u8]) -> Result<Vec<u8>, AllocError> {
+fn two(call: &str, a: &[u8], b: &[u8]) -> Option<Result<Given, FaultReport>> {
     match call {
-        b"join" => path_answer(heap, join(a, b)),
-        b"compare" => compare(heap, a, b),
-        b"key" => key_answer(heap, meta_key(a, b)),
-        b"data-key" => key_answer(heap, data_key(a, b)),
-        _ => said(heap, "unknown"),
+        "join" => Some(join(a, b)),
+        "compare" => Some(compare(a, b)),
+        "key" => Some(meta_key(a, b)),
+        "data-key" => Some(data_key(a, b)),
+        _ => None,
     }
 }
 
-fn join(base: &[u8], relative: &[u8]) -> Result<NodePath, PathFault> {
-    NodePath::new(base)?.join(relative)
+fn row(path: &[u8]) -> Result<Given, FaultReport> {
+    let path = reported(NodePath::new(path))?;
+    let row = PathRow::from(&path);
+    Ok(Given::Path(reported(NodePath::try_from(&row))?))
 }
 
-fn through_row(path: &[u8]) -> Result<NodePath, PathFault> {
-    NodePath::try_from(&PathRow::from(&NodePath::new(path)?))
+fn parent(path: &[u8]) -> Result<Given, FaultReport> {
+    let path = reported(NodePath::new(path))?;
+    Ok(path.parent().map_or(Given::Nothing, Given::Path))
 }
 
-fn meta_key(file: &[u8], path: &[u8]) -> Result<StoreKey, Refusal> {
-    let path = NodePath::new(path)?;
-    Ok(match file {
-        b"v3" => keys::meta_key(&path, MetadataFile::ZarrJson),
-        b"array" => keys::meta_key(&path, MetadataFile::Zarray),
-        b"group" => keys::meta_key(&path, MetadataFile::Zgroup),
-        _ => keys::meta_key(&path, MetadataFile::Zattrs),
-    })
+fn depth(path: &[u8]) -> Result<Given, FaultReport> {
+    let path = reported(NodePath::new(path))?;
+    Ok(Given::Depth(path.depth()))
 }
 
-fn data_key(path: &[u8], chunk: &[u8]) -> Result<StoreKey, Refusal> {
-    Ok(keys::data_key(&NodePath::new(path)?, chunk)?)
+fn prefix(path: &[u8]) -> Result<Given, FaultReport> {
+    let path = reported(NodePath::new(path))?;
+    Ok(Given::Prefix(keys::prefix_of(&path)))
 }
 
-fn parent(heap: Global, a: &[u8]) -> Result<Vec<u8>, AllocError> {
-    match NodePath::new(a) {
-        Err(fault) => refused(heap, &fault),
-        Ok(path) => match path.parent() {
-            None => said(heap, "none"),
-            Some(parent) => granted(heap, parent.as_bytes()),
-        },
-    }
+fn from_prefix(prefix: &[u8]) -> Result<Given, FaultReport> {
+    let prefix = reported(StorePrefix::new(prefix))?;
+    Ok(Given::Path(reported(keys::path_of_prefix(&prefix))?))
 }
 
-fn last_name(heap: Global, a: &[u8]) -> Result<Vec<u8>, AllocError> {
-    match NodePath::new(a) {
-        Err(fault) => refused(heap, &fault),
-        Ok(path) => granted(heap, path.name()),
-    }
+fn join(base: &[u8], relative: &[u8]) -> Result<Given, FaultReport> {
+    let base = reported(NodePath::new(base))?;
+    Ok(Given::Path(reported(base.join(relative))?))
 }
 
-fn depth(heap: Global, a: &[u8]) -> Result<Vec<u8>, AllocError> {
-    match NodePath::new(a) {
-        Err(fault) => refused(heap, &fault),
-        Ok(path) => {
-            let depth = path.depth();
-            said(heap, format!(in heap; "{depth}")?.as_str())
-        }
-    }
+fn compare(one: &[u8], two: &[u8]) -> Result<Given, FaultReport> {
+    let one = reported(NodePath::new(one))?;
+    let two = reported(NodePath::new(two))?;
+    Ok(Given::Order(one.cmp(&two)))
 }
 
-fn prefix(heap: Global, a: &[u8]) -> Result<Vec<u8>, AllocError> {
-    match NodePath::new(a) {
-        Err(fault) => refused(heap, &fault),
-        Ok(path) => granted(heap, keys::prefix_of(&path).as_bytes()),
-    }
+fn meta_key(file: &[u8], path: &[u8]) -> Result<Given, FaultReport> {
+    let path = reported(NodePath::new(path))?;
+    let file = match file {
+        b"v3" => MetadataFile::ZarrJson,
+        b"array" => MetadataFile::Zarray,
+        b"group" => MetadataFile::Zgroup,
+        _ => MetadataFile::Zattrs,
+    };
+    Ok(Given::Key(keys::meta_key(&path, file)))
 }
 
-fn from_prefix(heap: Global, a: &[u8]) -> Result<Vec<u8>, AllocError> {
-    match StorePrefix::new(a) {
-        Err(fault) => refused(heap, &fault),
-        Ok(prefix) => path_answer(heap, keys::path_of_prefix(&prefix)),
-    }
-}
-
-fn compare(heap: Global, a: &[u8], b: &[u8]) -> Result<Vec<u8>, AllocError> {
-    match ordering(a, b) {
-        Err(fault) => refused(heap, &fault),
-        Ok(Ordering::Less) => said(heap, "less"),
-        Ok(Ordering::Equal) => said(heap, "equal"),
-        Ok(Ordering::Greater) => said(heap, "greater"),
-    }
-}
-
-fn ordering(a: &[u8], b: &[u8]) -> Result<Ordering, PathFault> {
-    Ok(NodePath::new(a)?.cmp(&NodePath::new(b)?))
+fn data_key(path: &[u8], chunk: &[u8]) -> Result<Given, FaultReport> {
+    let path = reported(NodePath::new(path))?;
+    Ok(Given::Key(reported(keys::data_key(&path, chunk))?))
 }

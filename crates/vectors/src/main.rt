@@ -4,12 +4,13 @@
 mod calls;
 mod words;
 
-use calls::answer;
+use calls::{answer, spelled};
 use std::alloc::{AllocError, AllocFailed, Global};
 use std::io;
 use std::process::ExitCode;
 use words::decoded;
 
+// Kept: a derived error holds the allocator's, and this one prints no more than `Memory`.
 #[derive(Debug, Drop)]
 enum Failure {
     Input(io::Error),
@@ -34,51 +35,41 @@ impl<T: Drop> From<AllocFailed<T>> for Failure {
     }
 }
 
-// What became of a line.
+// A line that is a vector: what its call gives, and what it must give.
 #[derive(Drop)]
-enum Outcome {
-    NoVector,
-    Agrees,
-    Differs { line: String, got: Vec<u8> },
+struct Vector {
+    got: Vec<u8>,
+    expected: Vec<u8>,
 }
 
-fn run_line(heap: Global, line: &str) -> Result<Outcome, AllocError> {
+// Runs the vector in a line, which is none in an empty line or behind a `%`.
+fn run_line(heap: Global, line: &str) -> Result<Option<Vector>, AllocError> {
     if line.is_empty() || line.starts_with('%') {
-        return Ok(Outcome::NoVector);
+        return Ok(None);
     }
-    let mut call = Vec::new(heap);
-    let mut expected = Vec::new(heap);
-    let mut behind = false;
-    for word in line.split(' ') {
-        if word == "=" {
-            behind = true;
-        } else if behind {
-            expected.push(decoded(heap, word)?)?;
-        } else {
-            call.push(decoded(heap, word)?)?;
-        }
-    }
-    let got = answer(heap, call.as_slice())?;
-    if text::equal(
-        got.as_slice(),
-        spaced(heap, expected.as_slice())?.as_slice(),
-    ) {
-        return Ok(Outcome::Agrees);
-    }
-    Ok(Outcome::Differs {
-        line: String::from_str(heap, line)?,
-        got,
-    })
+    let words: Vec<&str> = line.split(' ').collect(heap)?;
+    let equals = words
+        .iter()
+        .position(|word| *word == "=")
+        .unwrap_or(words.len());
+    let (call, expected) = words.split_at(equals);
+    let call: Vec<Vec<u8>> = call
+        .iter()
+        .map(|word| decoded(heap, word))
+        .try_collect(heap)?;
+    let got = spelled(heap, answer(call.as_slice()))?;
+    let expected = spaced(heap, expected)?;
+    Ok(Some(Vector { got, expected }))
 }
 
-// The words with one space between them.
-fn spaced(heap: Global, words: &[Vec<u8>]) -> Result<Vec<u8>, AllocError> {
+// The bytes of the words that are no `=`, with one space between two.
+fn spaced(heap: Global, words: &[&str]) -> Result<Vec<u8>, AllocError> {
     let mut line = Vec::new(heap);
-    for (i, word) in words.iter().enumerate() {
+    for (i, word) in words.iter().filter(|word| **word != "=").enumerate() {
         if i > 0 {
             line.push(b' ')?;
         }
-        line.extend_from_slice(word.as_slice())?;
+        line.extend_from_slice(decoded(heap, word)?.as_slice())?;
     }
     Ok(line)
 }
@@ -88,13 +79,15 @@ fn main(rt: HostRuntime) -> Result<ExitCode, Failure> {
     let mut agree = 0usize;
     let mut differ = 0usize;
     for line in rt.lines(heap) {
-        match run_line(heap, line?.as_str())? {
-            Outcome::NoVector => {}
-            Outcome::Agrees => agree = agree.saturating_add(1),
-            Outcome::Differs { line, got } => {
-                differ = differ.saturating_add(1);
-                println!(rt; "differs: {line}\n    got: {got:?}")?;
-            }
+        let line = line?;
+        let Some(Vector { got, expected }) = run_line(heap, line.as_str())? else {
+            continue;
+        };
+        if got == expected {
+            agree = agree.saturating_add(1);
+        } else {
+            differ = differ.saturating_add(1);
+            println!(rt; "differs: {line}\n    got: {got:?}")?;
         }
     }
     println!(rt; "{agree} vectors agree, {differ} differ")?;

@@ -2,24 +2,16 @@
 use std::alloc::{AllocError, Global};
 
 pub(crate) fn decoded(heap: Global, word: &str) -> Result<Vec<u8>, AllocError> {
-    let bytes = word.as_bytes();
-    let mut out = Vec::new(heap);
-    if bytes.is_empty() || bytes[0] != b'#' {
-        out.extend_from_slice(bytes)?;
-        return Ok(out);
+    match word.strip_prefix('#') {
+        Some(digits) => digits.as_bytes().chunks(2).map(pair_value).collect(heap),
+        None => Vec::from_slice(heap, word.as_bytes()),
     }
-    for pair in bytes[1..].chunks(2) {
-        out.push(pair_value(pair))?;
-    }
-    Ok(out)
 }
 
 fn pair_value(pair: &[u8]) -> u8 {
-    let mut value = 0u8;
-    for digit in pair {
-        value = value.wrapping_mul(16).wrapping_add(digit_value(*digit));
-    }
-    value
+    pair.iter().fold(0, |value: u8, digit| {
+        value.wrapping_mul(16).wrapping_add(digit_value(*digit))
+    })
 }
 
 fn digit_value(digit: u8) -> u8 {

@@ -17,6 +17,7 @@ pub(crate) fn find<'a>(rt: &'a HostRuntime, archive: &'a str) -> Result<Vec<Foun
         pending: Vec::new(heap),
     };
     walk.see_root()?;
+    // Kept: the disk alone decides how many folders there are, so the turns are counted.
     for _ in 0..u64::MAX {
         let Some(folder) = walk.pending.pop() else {
             break;
@@ -29,18 +30,10 @@ pub(crate) fn find<'a>(rt: &'a HostRuntime, archive: &'a str) -> Result<Vec<Foun
 fn have_folder(rt: &HostRuntime, archive: &str) -> Result<(), Failure> {
     let path = String::from_str(rt.alloc(), archive)?;
     match fs::metadata(rt, archive) {
-        Ok(seen) => if seen.is_dir() {
-            Ok(())
-        } else {
-            Err(Failure::NoFolder(path))
-        },
-        Err(why) => {
-            if why.kind() == ErrorKind::NotFound {
-                Err(Failure::NoFolder(path))
-            } else {
-                Err(Failure::Unreadable { path, why })
-            }
-        }
+        Ok(seen) if seen.is_dir() => Ok(()),
+        Ok(_) => Err(Failure::NoFolder(path)),
+        Err(why) if why.kind() == ErrorKind::NotFound => Err(Failure::NoFolder(path)),
+        Err(why) => Err(Failure::Unreadable { path, why }),
     }
 }
 
@@ -67,8 +60,7 @@ impl Walk<'_> {
     fn enter(&mut self, path: String, kind: Kind) -> Result<(), Failure> {
         match kind {
             Kind::Array2 => {}
-            Kind::Version3 => self.pending.push(path)?,
-            Kind::Group2 => self.pending.push(path)?,
+            Kind::Version3 | Kind::Group2 => self.pending.push(path)?,
         }
         Ok(())
     }
@@ -76,10 +68,10 @@ impl Walk<'_> {
     // Goes through what the folder of a node holds.
     fn see_entries(&mut self, folder: &str) -> Result<(), Failure> {
         let place = self.place(folder)?;
-        let entries = match fs::read_dir(self.rt, place.as_str()) {
-            Ok(entries) => entries,
-            Err(why) => return Err(Failure::Unreadable { path: place, why }),
-        };
+        let entries = fs::read_dir(self.rt, place.as_str()).map_err(|why| Failure::Unreadable {
+            path: place,
+            why,
+        })?;
         for entry in entries {
             match entry {
                 Ok(entry) => self.see_entry(folder, &entry)?,
@@ -141,10 +133,7 @@ impl Walk<'_> {
 
     fn is_folder(&self, path: &str) -> Result<bool, Failure> {
         let place = self.place(path)?;
-        match fs::metadata(self.rt, place.as_str()) {
-            Ok(seen) => Ok(seen.is_dir()),
-            Err(_) => Ok(false),
-        }
+        Ok(fs::metadata(self.rt, place.as_str()).is_ok_and(|seen| seen.is_dir()))
     }
 
     fn marks(&self, path: &str) -> Result<Marks, Failure> {
@@ -161,13 +150,8 @@ impl Walk<'_> {
         let path = self.place(file.as_str())?;
         match fs::metadata(self.rt, path.as_str()) {
             Ok(seen) => Ok(seen.is_file()),
-            Err(why) => {
-                if why.kind() == ErrorKind::NotFound {
-                    Ok(false)
-                } else {
-                    Err(Failure::Unreadable { path, why })
-                }
-            }
+            Err(why) if why.kind() == ErrorKind::NotFound => Ok(false),
+            Err(why) => Err(Failure::Unreadable { path, why }),
         }
     }
 }

@@ -6,7 +6,7 @@ mod folders;
 
 use classes::listing;
 use console::command::Command;
-use console::{command, report, shown};
+use console::{command, report};
 use failure::Failure;
 use std::env;
 use std::io::Write;
@@ -51,7 +51,7 @@ fn tell(rt: &HostRuntime, failure: &Failure) -> Result<(), Failure> {
     let heap = rt.alloc();
     let sentence = format!(in heap; "walqyndem: {failure}")?;
     let mut line = Vec::new(heap);
-    shown::push_shown(&mut line, sentence.as_bytes())?;
+    printing::push_shown(&mut line, sentence.as_bytes())?;
     line.push(b'\n')?;
     rt.stderr().write_all(line.as_slice())?;
     Ok(())

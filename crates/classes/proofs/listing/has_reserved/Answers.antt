@@ -1,25 +1,13 @@
-use Rattle.std.proofs.Common.{◌+◌, sym, ap, ◌∙◌, arith}
-use Rattle.std.proofs.lemmas.List.{take_rest}
+use Rattle.std.proofs.Common.{eqb, ◌∙◌, rules, tests}
+use Rattle.std.proofs.lemmas.Iterator.Adapters.{YieldsList-from_skip}
+use Rattle.std.proofs.lemmas.Iterator.Search.{any_from_yields_List}
+use Rattle.std.proofs.lemmas.Iterator.Splits.{YieldsList-from_slice_split}
 use Rattle.paths.specs.Names.{reserved}
-use Rattle.classes.proofs.Turns.{no_slash, no_reserve, reserve_here, none_reserved}
+use Rattle.classes.proofs.Reserved.{reserved_parts}
 use Rattle.classes.proofs.listing.has_reserved.Goals as goal
-use Rattle.classes.proofs.listing.has_reserved.Goals.{else-path-i-eq47-via-then-path-i-eq47+else-is_reserved, else-path-i-eq47-via-else-path-i-eq47}
-
-pub returns-then-is_reserved : goal.returns-then-is_reserved
-returns-then-is_reserved c =
-    let p = c.args.path.now in
-    let i = c.loop-i.i in
-    reserve_here p i (omega arith) c.if-path-i-eq47.true (c.if-is_reserved.ensures ∙ ap reserved (take_rest p (i + 1))) ∙ c.loop-i.invariant
-
-pub loop-i-preserved : goal.loop-i-preserved
-loop-i-preserved c =
-    let p = c.args.path.now in
-    let i = c.loop-i.i in
-    elim c.else-path-i-eq47.branch [
-      | else-path-i-eq47-via-then-path-i-eq47+else-is_reserved w ↦
-          sym (no_reserve p i (omega arith) w.if-path-i-eq47.true (w.if-is_reserved.ensures ∙ ap reserved (take_rest p (i + 1)))) ∙ c.loop-i.invariant
-      | else-path-i-eq47-via-else-path-i-eq47 w ↦ sym (no_slash p i (omega arith) w.if-path-i-eq47.false) ∙ c.loop-i.invariant
-    ]
 
 pub returns : goal.returns
-returns c = sym (none_reserved c.args.path.now c.loop-i.i (omega arith)) ∙ c.loop-i.invariant
+returns c =
+    let path = c.args.path.now in
+    let parts = YieldsList-from_slice_split _ (λ b. eqb b 47) path (cc) (cc) (cc) (λ x b q k. search (rules, tests)) in
+    any_from_yields_List reserved _ _ _ c.any.ensures.ran (YieldsList-from_skip 1 parts (cc)) (λ x b q k. search (rules, tests)) ∙ reserved_parts path

@@ -1,8 +1,10 @@
-use Rattle.std.proofs.Common.{◌≡◌, max, [], ◌∷◌, ◌++◌, map, length, vec_items, codes, decimal, sym, ap, ◌∙◌}
+use Rattle.std.proofs.Common.{◌≡◌, max, [], ◌∷◌, ◌++◌, map, length, vec_items, codes, decimal, sym, ap, ◌∙◌, append_assoc}
 use Rattle.std.proofs.lemmas.List.{length-map}
+use Rattle.std.proofs.lemmas.Result.{on_ok_weaker}
 use Rattle.classes.specs.Classes.{entry}
 use Rattle.console.specs.Reports.{at_right, node_lines, width}
-use Rattle.console.proofs.Pieces.{joined, called}
+use Rattle.printing.proofs.Pieces.{joined, called}
+use Rattle.console.proofs.Columns.{head_at_right}
 use Rattle.console.proofs.report.push_nodes.Goals as goal
 
 pub returns : goal.returns
@@ -13,8 +15,11 @@ returns c =
     let names = codes "  Kind      Path" ++ (10 ∷ []) in
     let lines = node_lines (width es) 0 es in
     let o0 = vec_items c.args.out.now in
-    let o1 = vec_items c.push_right.new.out in
-    let o2 = vec_items c.extend_from_slice.new.self in
-    let o3 = vec_items c.push_node_lines.new.out in
-    joined o0 o1 o3 head (names ++ lines) (called o0 o1 _ head c.in_ok-push_right.ensures (ap (λ w. at_right w (codes "No.")) wide))
-    (joined o1 o2 o3 names lines c.in_ok-extend_from_slice.ensures.items (called o2 o3 _ lines c.in_ok-push_node_lines.ensures (ap (λ w. node_lines w 0 es) wide)))
+    let o1 = vec_items c.extend_from_slice.new.self in
+    let o2 = vec_items c.push_node_lines.new.out in
+    let written : o1 ≡ o0 ++ (head ++ names) =
+    called o0 o1 _ _ c.in_ok-extend_from_slice.ensures.items
+    (c.as_bytes.ensures.value ∙ c.in_ok-head.ensures.ok ∙ ap (λ t. t ++ names) (head_at_right _ c.in_ok-width.width c.laid_out.ensures ∙ ap (λ w. at_right w (codes "No.")) wide)) in
+    on_ok_weaker c.push_node_lines.result
+    (λ e. joined o0 o1 o2 (head ++ names) lines written (called o1 o2 _ lines e (ap (λ w. node_lines w 0 es) wide)) ∙ ap (λ t. o0 ++ t) (append_assoc head names lines))
+    c.push_node_lines.ensures

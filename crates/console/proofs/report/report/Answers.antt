@@ -2,8 +2,8 @@ use Rattle.std.proofs.Common.{◌≡◌, [], ◌∷◌, ◌++◌, map, length, v
 use Rattle.std.proofs.lemmas.List.{length-map}
 use Rattle.classes.specs.Classes.{entry, told}
 use Rattle.console.specs.Reports.{nodes_text, passed_text, totals, report_text}
-use Rattle.console.specs.Shown.{shown}
-use Rattle.console.proofs.Pieces.{joined, called}
+use Rattle.printing.specs.Shown.{shown}
+use Rattle.printing.proofs.Pieces.{joined, called}
 use Rattle.console.proofs.report.report.Goals as goal
 
 pub returns : goal.returns

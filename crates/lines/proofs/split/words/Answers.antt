@@ -1,21 +1,21 @@
-use Rattle.std.proofs.Common.{◌+◌, ◌++◌, map, drop, vec_items, sym, ap, ◌∙◌, arith}
-use Rattle.lines.specs.Words.{cut_behind}
-use Rattle.lines.proofs.Cuts.{cut_space, cut_byte, cut_end, cut_start}
+use Rattle.std.proofs.Common.{eqb, [], ◌∷◌, ◌++◌, map, vec_items, sym, ap, ◌∙◌, rules, tests}
+use Rattle.std.proofs.lemmas.Iterator.Consumers.{YieldsList-end}
+use Rattle.std.proofs.lemmas.Iterator.Splits.{YieldsList-from_slice_split}
+use Rattle.text.specs.Bytes.{Bytes}
+use Rattle.lines.proofs.Cuts.{cut_parts, map_push}
 use Rattle.lines.proofs.split.words.Goals as goal
 
-pub loop-b-init : goal.loop-b-init
-loop-b-init c = cut_start vec_items c.args.line.now _ _ c.new-words.ensures.items c.new-word.ensures.items
-
-pub loop-b-preserved-then-b-ne32 : goal.loop-b-preserved-then-b-ne32
-loop-b-preserved-then-b-ne32 c =
-    c.loop-b.invariant ∙ cut_byte vec_items c.args.line.now (vec_items c.loop-b.words) (vec_items c.loop-b.word) (vec_items c.push.new.self) c.loop-b.b-index (omega arith) c.if-b-ne32.true c.in_ok-push.ensures.items
-
-pub loop-b-preserved : goal.loop-b-preserved
-loop-b-preserved c =
-    c.loop-b.invariant
-    ∙ cut_space vec_items c.args.line.now (vec_items c.loop-b.words) c.loop-b.word (vec_items c.new-word-in-loop-b.result) c.loop-b.b-index (omega arith) c.if-b-ne32.false c.new-word-in-loop-b.ensures.items
-    ∙ ap (λ t. map vec_items t ++ cut_behind (vec_items c.new-word-in-loop-b.result) (drop (c.loop-b.b-index + 1) c.args.line.now)) (sym c.in_ok-push-2.ensures.items)
+pub loop-word-preserved : goal.loop-word-preserved
+loop-word-preserved c =
+    let so_far = c.loop-word.yielded in
+    let word = c.in_ok-from_slice.field-0 in
+    ap (map vec_items) c.in_ok-push.ensures.items ∙ map_push vec_items (vec_items c.loop-word.words) word
+    ∙ ap (λ t. t ++ (vec_items word ∷ [])) c.loop-word.invariant
+    ∙ ap (λ (q : Bytes). map (λ x. x.now) so_far ++ (q ∷ [])) c.in_ok-from_slice.ensures.items
+    ∙ sym (map_push (λ x. x.now) so_far c.in-Some.word)
 
 pub returns : goal.returns
 returns c =
-    ap (map vec_items) c.in_ok-push-3.ensures.items ∙ sym (c.loop-b.invariant ∙ cut_end vec_items c.args.line.now (vec_items c.loop-b.words) c.loop-b.word c.loop-b.b-index (omega arith))
+    let line = c.args.line.now in
+    let given = YieldsList-from_slice_split _ (λ b. eqb b 32) line (cc) (cc) (cc) (λ x b q k. search (rules, tests)) in
+    c.loop-word.invariant ∙ (YieldsList-end given c.loop-word.yielded _ c.loop-word.yielded_by _ _ c.in-None.is c.next.ensures.steps).0 ∙ sym (cut_parts line)

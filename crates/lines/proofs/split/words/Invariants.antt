@@ -1,6 +1,5 @@
-use Rattle.std.proofs.Common.{◌≡◌, ◌++◌, map, drop, vec_items}
-use Rattle.lines.specs.Words.{cut, cut_behind}
+use Rattle.std.proofs.Common.{◌≡◌, map, vec_items}
 use Rattle.lines.proofs.split.words.Given as goal
 
-abbrev pub invariant-loop-b : goal.invariant-loop-b
-invariant-loop-b l = cut l.line ≡ map vec_items (vec_items l.words) ++ cut_behind (vec_items l.word) (drop l.b-index l.line)
+abbrev pub invariant-loop-word : goal.invariant-loop-word
+invariant-loop-word l = map vec_items (vec_items l.words) ≡ map (λ x. x.now) l.yielded

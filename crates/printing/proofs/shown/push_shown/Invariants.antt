@@ -1,6 +1,9 @@
-use Rattle.std.proofs.Common.{◌≡◌, ◌++◌, drop, vec_items}
-use Rattle.printing.specs.Shown.{shown, shown_in}
+use Rattle.std.proofs.Common.{◌≡◌, ◌++◌, length, vec_items}
+use Rattle.printing.specs.Shown.{shown}
 use Rattle.printing.proofs.shown.push_shown.Given as goal
 
-abbrev pub invariant-loop-i : goal.invariant-loop-i
-invariant-loop-i l = vec_items l.out ++ shown_in l.inside (drop l.i l.bytes) ≡ vec_items l.initial.out ++ shown l.bytes
+abbrev pub invariant-loop-rest : goal.invariant-loop-rest
+invariant-loop-rest l = vec_items l.out ++ shown l.rest ≡ vec_items l.initial.out ++ shown l.bytes
+
+abbrev pub decreases-loop-rest : goal.decreases-loop-rest
+decreases-loop-rest l = length l.rest
