@@ -1,17 +1,19 @@
--- What a store means by its members, and what a call through layers answers.
+-- What shows through layers, and what a call through them answers.
 -- Assumes nothing.
-use Rattle.std.specs.Prelude.{◌≡◌, ℕ, Bool, Ok, Err, Result}
+use Rattle.std.specs.Prelude.{◌≡◌, List, Ok, Err, Result}
 use Rattle.text.specs.Bytes.{Bytes}
 use Rattle.keys.specs.declared.fault.StoreFault.{StoreFault}
 use Rattle.paths.specs.declared.fault.PathFault.{PathFault}
-use Rattle.stores.specs.Pairs.{Pairs}
-use Rattle.stores.specs.Meaning.{Meaning, means, Set}
+use Rattle.stores.specs.Meaning.{Meaning, Set, view}
+use Rattle.fences.specs.declared.table.Row.{Row}
+use Rattle.fences.specs.Guard.{guard}
 use Rattle.mounts.specs.Fronts.{Outside}
 use Rattle.piles.specs.declared.fault.PileFault.{PileFault}
 use Rattle.piles.specs.declared.fault.PileFault.TheVariants.{Path, Store}
 
-abbrev pub meaning_of : {S : Type 0} → (S → Pairs) → (S → ℕ) → (S → Bytes → ℕ → Bool) → (S → Bytes → Bool) → S → Meaning
-meaning_of pairs longest takes lets s = means (pairs s) (longest s) (takes s) (lets s)
+-- what shows through a fence over a mount over a fence
+abbrev pub layered : List Row → Bytes → List Row → Meaning → Meaning
+layered inner p outer m = guard outer (view p (guard inner m))
 
 -- a store's refusal among those of a pile
 abbrev pub of_store : Result Unit StoreFault → Result Unit PileFault

@@ -1,14 +1,13 @@
-// A pair set through layers around any store.
+// A pair set through a layer around any store.
 ghost use Rattle.std.specs.Prelude.{◌≡◌};
 ghost use Rattle.keys.specs.MetadataKeys.{prefix_of};
 ghost use Rattle.paths.specs.Values.{names_of};
-ghost use Rattle.stores.specs.Meaning.{Set, view};
+ghost use Rattle.stores.specs.Meaning.{Set, meaning_of, view};
 ghost use Rattle.fences.specs.Guard.{guard};
 ghost use Rattle.mounts.specs.Fronts.{room_for};
-ghost use Rattle.piles.specs.Piles.{meaning_of, of_store, SetAt};
+ghost use Rattle.piles.specs.Piles.{SetAt};
 
 use crate::fault::PileFault;
-use crate::pile::in_pile;
 use crate::work::{Work, in_fence, in_mount};
 use fences::Rows;
 use keys::StoreFault;
@@ -41,9 +40,7 @@ pub fn put_fenced<S: WriteStore>(
     value: &[u8],
 ) -> Result<(), StoreFault>
     ensures ties { S.WriteStore.ties store.old store.new }
-    ensures means { Set key.now value.now
-        (guard table.now.rows (meaning_of S.ReadStore.pairs S.ReadStore.longest S.WriteStore.takes S.WriteStore.lets store.old))
-        (guard table.now.rows (meaning_of S.ReadStore.pairs S.ReadStore.longest S.WriteStore.takes S.WriteStore.lets store.new)) result }
+    ensures means { Set key.now value.now (guard table.now.rows (meaning_of S.WriteStore store.old)) (guard table.now.rows (meaning_of S.WriteStore store.new)) result }
 {
     let mut put = Put { key, value };
     in_fence(store, table, &mut put)
@@ -57,40 +54,9 @@ pub fn put_mounted<S: WriteStore>(
     value: &[u8],
 ) -> Result<(), PileFault>
     ensures ties { S.WriteStore.ties store.old store.new }
-    ensures means { SetAt (meaning_of S.ReadStore.pairs S.ReadStore.longest S.WriteStore.takes S.WriteStore.lets) view (room_for (S.ReadStore.longest store.old) (prefix_of (names_of path.now))) key.now value.now store.old store.new result }
+    ensures means { SetAt (meaning_of S.WriteStore) view (room_for (S.ReadStore.longest store.old) (prefix_of (names_of path.now))) key.now value.now store.old store.new result }
 {
     let mut put = Put { key, value };
-    match room_at(store, path) {
-        Ok(front) => flat(in_mount(store, &front, &mut put)),
-        Err(fault) => Err(PileFault::Path(fault)),
-    }
-}
-
-// Sets a pair through a fence over a mount at a path over a fence around the store; refused where the path leaves no room for a key.
-pub fn put_piled<S: WriteStore>(
-    store: &mut S,
-    inner: &Rows,
-    path: &NodePath,
-    outer: &Rows,
-    key: &[u8],
-    value: &[u8],
-) -> Result<(), PileFault>
-    ensures ties { S.WriteStore.ties store.old store.new }
-    ensures means { SetAt (meaning_of S.ReadStore.pairs S.ReadStore.longest S.WriteStore.takes S.WriteStore.lets) (λ p m. guard outer.now.rows (view p (guard inner.now.rows m))) (room_for (S.ReadStore.longest store.old) (prefix_of (names_of path.now))) key.now value.now store.old store.new result }
-{
-    let mut put = Put { key, value };
-    match room_at(store, path) {
-        Ok(front) => flat(in_pile(store, inner, &front, outer, &mut put)),
-        Err(fault) => Err(PileFault::Path(fault)),
-    }
-}
-
-// A store's answer among those of a pile.
-fn flat(answer: Result<(), StoreFault>) -> Result<(), PileFault>
-    ensures { result ≡ of_store answer }
-{
-    match answer {
-        Ok(()) => Ok(()),
-        Err(fault) => Err(PileFault::Store(fault)),
-    }
+    let front = room_at(store, path)?;
+    Ok(in_mount(store, &front, &mut put)?)
 }

@@ -1,10 +1,9 @@
 // Work that can be done on any store, and done through a layer around it. Each function makes one layer, and says of the store what is left when the layer is gone.
 ghost use Rattle.std.specs.Prelude.{◌≡◌};
 ghost use Rattle.keys.specs.Values.{prefix_text};
-ghost use Rattle.stores.specs.Meaning.{Meaning, view};
+ghost use Rattle.stores.specs.Meaning.{Meaning, meaning_of, view};
 ghost use Rattle.fences.specs.Guard.{guard};
 ghost use Rattle.mounts.specs.Fronts.{Outside};
-ghost use Rattle.piles.specs.Piles.{meaning_of};
 
 use fences::{Fence, Rows};
 use keys::StorePrefix;
@@ -12,6 +11,7 @@ use mounts::Mount;
 use stores::{ListStore, ReadStore, WriteStore};
 
 // What is done is told by the worker before, the store's meaning before and after, the worker after and the answer.
+// Kept: the work takes a store of any type, which no closure does, so it is a method of a trait.
 pub trait Work {
     type Answer;
 
@@ -19,17 +19,14 @@ pub trait Work {
 
     fn work<T: WriteStore>(&mut self, store: &mut T) -> Self::Answer
         ensures ties { T.WriteStore.ties store.old store.new }
-        ensures does { does self.old
-            (meaning_of T.ReadStore.pairs T.ReadStore.longest T.WriteStore.takes T.WriteStore.lets store.old)
-            (meaning_of T.ReadStore.pairs T.ReadStore.longest T.WriteStore.takes T.WriteStore.lets store.new) self.new result };
+        ensures does { does self.old (meaning_of T.WriteStore store.old) (meaning_of T.WriteStore store.new) self.new result };
 }
 
 // Through a fence.
+// Kept: a function for each layer, since a layer's type depends on its store's, and a type of a trait takes no parameter.
 pub fn in_fence<S: WriteStore, W: Work>(store: &mut S, table: &Rows, worker: &mut W) -> W::Answer
     ensures ties { S.WriteStore.ties store.old store.new }
-    ensures does { W.Work.does worker.old
-        (guard table.now.rows (meaning_of S.ReadStore.pairs S.ReadStore.longest S.WriteStore.takes S.WriteStore.lets store.old))
-        (guard table.now.rows (meaning_of S.ReadStore.pairs S.ReadStore.longest S.WriteStore.takes S.WriteStore.lets store.new)) worker.new result }
+    ensures does { W.Work.does worker.old (guard table.now.rows (meaning_of S.WriteStore store.old)) (guard table.now.rows (meaning_of S.WriteStore store.new)) worker.new result }
 {
     let mut fence = Fence::new(store, table);
     worker.work(&mut fence)
@@ -43,9 +40,7 @@ pub fn in_mount<S: WriteStore, W: Work>(
 ) -> W::Answer
     ensures ties { S.WriteStore.ties store.old store.new }
     ensures keeps { Outside (prefix_text front.now) (S.ReadStore.pairs store.old) (S.ReadStore.pairs store.new) }
-    ensures does { W.Work.does worker.old
-        (view (prefix_text front.now) (meaning_of S.ReadStore.pairs S.ReadStore.longest S.WriteStore.takes S.WriteStore.lets store.old))
-        (view (prefix_text front.now) (meaning_of S.ReadStore.pairs S.ReadStore.longest S.WriteStore.takes S.WriteStore.lets store.new)) worker.new result }
+    ensures does { W.Work.does worker.old (view (prefix_text front.now) (meaning_of S.WriteStore store.old)) (view (prefix_text front.now) (meaning_of S.WriteStore store.new)) worker.new result }
 {
     let mut mount = Mount::new(store, front);
     worker.work(&mut mount)
