@@ -7,7 +7,7 @@ use Rattle.grammar.specs.Grammar.{Ws, Shows, s_arr0, s_arr, padded, ShowsItems, 
 use Rattle.grammar.specs.Machine.{Stack, in_arr, val, first, aft, step_first, step_item, run, stopped}
 use Rattle.grammar.specs.Terminals.{is_blank, punct_of}
 use Rattle.grammar.proofs.Complete.{ws_val, ws_first, ws_aft}
-use Rattle.documents.specs.Reading.{Part, Refuses, NoBlank, AnyValue, AnyArray, Each, Unlike, Differs, GotValue, GotArray}
+use Rattle.documents.specs.Reading.{Part, Refuses, NoBlank, AnyArray, Each, Unlike, Differs, GotValue, GotArray}
 use Rattle.documents.proofs.Words.{SameByte, one_is, one_differs, not_is}
 use Rattle.documents.proofs.Parts.{part_then, part_as, part_byte, part_front, Byte, skip, go_at, bad_at, same_at}
 
@@ -54,9 +54,6 @@ module _ (d : ℕ) (s r : List ℕ) (p : Part Ws s r) where
   pub a_begin : NoBlank r → Unlike ℕ SameByte 93 r → AtValue d s r
   a_begin n u =
       record { items = none; part = part_as p (λ t x. r_first x); goes = λ k. skip (first d k) (ws_first d k) p ∙ first_value r n u d k }
-
-pub a_fail : (d : ℕ) (s r q : List ℕ) → AtValue d s r → Refuses (AnyValue d) r q → Refuses (AnyArray d) s q
-a_fail d s r q v n k = v.goes k ∙ n (in_arr v.items ∷ k)
 
 add_item : {d : ℕ} {xs : Items} {r : List ℕ} → Ready d xs r → {x : Json} {t w : List ℕ} → Shows d x t → Ws w → ShowsItems d xs x (r ++ (t ++ w))
 add_item (r_first vs) sh ws = i_one (padded vs sh ws)

@@ -1,14 +1,14 @@
 -- Numbers.
 -- Assumes nothing.
-use Rattle.std.proofs.Common.{◌≡◌, ℕ, true, false, List, [], ◌∷◌, ◌++◌, length, Some, None, Option, sym, refl, ap, ◌∙◌, subst, append_assoc, append-nil}
+use Rattle.std.proofs.Common.{◌≡◌, ℕ, true, List, [], ◌∷◌, ◌++◌, length, Some, None, Option, sym, refl, ap, ◌∙◌, subst, append_assoc, append-nil}
 use Rattle.grammar.specs.Ast.{num}
-use Rattle.grammar.specs.Machine.{Stack, aft, nums, end_nums, step_nums, finish_nums, run, stopped}
+use Rattle.grammar.specs.Machine.{Stack, aft, nums, end_nums, step_nums, finish_nums, run}
 use Rattle.grammar.specs.Numbers.{next, may_end, At}
 use Rattle.grammar.specs.declared.kinds.Phase.{Phase}
 use Rattle.grammar.proofs.Complete.{hop}
 use Rattle.grammar.proofs.Numbers.{Goes, goes_on, ends}
-use Rattle.documents.specs.Reading.{Part, Refuses, AnyNumber, GotNumber}
-use Rattle.documents.proofs.Parts.{empty, bad_at, same_at}
+use Rattle.documents.specs.Reading.{Part, GotNumber}
+use Rattle.documents.proofs.Parts.{empty, same_at}
 
 -- a number that had come to one phase has come to another
 pub record NumberAt (p : Phase) (s : List ℕ) (q : Phase) (r : List ℕ) : Type 0 where
@@ -51,11 +51,6 @@ over_ends q [] o ok d x k = ap (λ z. finish_nums z x k) ok
 over_ends q (b ∷ u) o ok d x k =
     same_at (nums d q x k) (aft d (num x) k) (b ∷ u) u b refl (ap (λ y. step_nums y b d q x k) o ∙ ap (λ z. end_nums z b d x k) ok)
 
-over_stops : (q : Phase) (r : List ℕ) → Over q r → may_end q ≡ false → (d : ℕ) (x : List ℕ) (k : Stack) → run (nums d q x k) r ≡ stopped r
-over_stops q [] o ok d x k = ap (λ z. finish_nums z x k) ok
-over_stops q (b ∷ u) o ok d x k =
-    bad_at (nums d q x k) (b ∷ u) u b refl (ap (λ y. step_nums y b d q x k) o ∙ ap (λ z. end_nums z b d x k) ok)
-
 pub n_ends : (p q : Phase) (s r : List ℕ) → NumberAt p s q r → Over q r → may_end q ≡ true → GotNumber p s r
 n_ends p q s r n o ok =
     let t : List ℕ = n.part.text in
@@ -63,6 +58,3 @@ n_ends p q s r n o ok =
       part = record { text = t; splits = n.part.splits; holds = λ x a. ends (n.part.holds x a) ok };
       goes = λ d x k. n.goes d x k ∙ over_ends q r o ok d (x ++ t) k;
     }
-
-pub n_stops : (p q : Phase) (s r : List ℕ) → NumberAt p s q r → Over q r → may_end q ≡ false → Refuses (AnyNumber p) s r
-n_stops p q s r n o ok d x k = n.goes d x k ∙ over_stops q r o ok d (x ++ n.part.text) k

@@ -7,32 +7,22 @@ use Rattle.grammar.specs.Machine.{Stack, in_obj, name, val, members, member, col
 use Rattle.grammar.specs.Terminals.{is_blank, punct_of}
 use Rattle.grammar.proofs.Numbers.{eqb_is}
 use Rattle.grammar.proofs.Complete.{ws_val, ws_members, ws_member, ws_colon, ws_aft}
-use Rattle.documents.specs.Reading.{Part, Refuses, NoBlank, AnyValue, AnyName, AnyObject, AnyString, Each, Unlike, Differs, GotString, GotValue, NameColon, name_colon, GotName, GotObject, ReadyName, rn_first, rn_next, ReadyPair, rp_first, rp_next}
+use Rattle.documents.specs.Reading.{Part, Refuses, NoBlank, AnyName, AnyObject, Each, Unlike, Differs, GotString, GotValue, NameColon, name_colon, GotName, GotObject, ReadyName, rn_first, rn_next, ReadyPair, rp_first, rp_next}
 use Rattle.documents.proofs.Parts.{part_then, part_as, part_byte, part_front, Byte, skip, go_at, bad_at, same_at}
 use Rattle.documents.proofs.Words.{SameByte, one_is, one_differs, not_is}
 use Rattle.documents.proofs.Strings.{str_at}
 use Rattle.documents.proofs.Arrays.{no_punct, Spaced, spaced, Marked, marked}
 
 -- ---- names
-name_stops : (s : List ℕ) → NoBlank s → Unlike ℕ SameByte 34 s → Refuses AnyName s s
-name_stops [] n u d ms k = refl
-name_stops (b ∷ t) n u d ms k =
-    bad_at (member d ms k) (b ∷ t) t b refl (ap (λ x. step_member x d ms k) (no_punct 34 34 b n (not_is b 34 u) (not_is b 34 u)))
 
 colon_stops : (s : List ℕ) → NoBlank s → Unlike ℕ SameByte 58 s → (d : ℕ) (ms : Members) (n : List ℕ) (k : Stack) → run (colon d ms n k) s ≡ stopped s
 colon_stops [] n u d ms m k = refl
 colon_stops (b ∷ t) n u d ms m k =
     bad_at (colon d ms m k) (b ∷ t) t b refl (ap (λ x. step_colon x d ms m k) (no_punct 58 58 b n (not_is b 58 u) (not_is b 58 u)))
 
-pub m_bad : (s r : List ℕ) → NoBlank s → Differs ℕ SameByte (34 ∷ []) s r → Refuses AnyName s r
-m_bad s r n f = let g = one_differs 34 s r f in subst (λ (x : List ℕ). Refuses AnyName s x) g.0 (name_stops s n g.1)
-
 module _ (s t : List ℕ) (o : Part (Each ℕ SameByte (34 ∷ [])) s t) where
   to_chars : (d : ℕ) (ms : Members) (k : Stack) → run (member d ms k) s ≡ run (chars d (name ms) [] k) t
   to_chars d ms k = go_at (member d ms k) (chars d (name ms) [] k) s t 34 (one_is 34 s t o) refl
-
-  pub m_no_string : (q : List ℕ) → Refuses AnyString t q → Refuses AnyName s q
-  m_no_string q n d ms k = to_chars d ms k ∙ n d (name ms) k
 
   module _ (r c : List ℕ) (g : GotString t r) (w : Part Ws r c) where
     to_colon : (d : ℕ) (ms : Members) (k : Stack) → run (member d ms k) s ≡ run (colon d ms g.text k) c
@@ -122,9 +112,6 @@ module _ (d : ℕ) (s r : List ℕ) (p : Part Ws s r) where
   o_begin n u =
       record { before = mnone; part = part_as p (λ t x. rn_first x); goes = λ k. skip (members d k) (ws_members d k) p ∙ first_name r n u d k }
 
-pub o_no_name : (d : ℕ) (s r q : List ℕ) → AtName d s r → Refuses AnyName r q → Refuses (AnyObject d) s q
-o_no_name d s r q v n k = v.goes k ∙ n d v.before k
-
 pub add_name : {d : ℕ} {ms : Members} {r : List ℕ} → ReadyName d ms r → {n t : List ℕ} → NameColon n t → ReadyPair d ms n (r ++ t)
 add_name {d} (rn_first {w = w} ws) (name_colon {n} {v} {w = z} cs vs zs) =
     subst (λ (y : List ℕ). ReadyPair d mnone n y) (simp append_assoc) (rp_first {u = w ++ (34 ∷ (n ++ (34 ∷ v)))} (named ws cs vs) zs)
@@ -140,9 +127,6 @@ o_name d s r n q v g =
       part = part_then (ReadyName d ms) (NameColon n) (ReadyPair d ms n) s r q (λ t u x y. add_name x y) v.part g.part;
       goes = λ k. v.goes k ∙ g.goes d ms k;
     }
-
-pub o_fail : (d : ℕ) (s r q : List ℕ) → AtPair d s r → Refuses (AnyValue d) r q → Refuses (AnyObject d) s q
-o_fail d s r q v n k = v.goes k ∙ n (in_obj v.before v.named ∷ k)
 
 pub add_pair : {d : ℕ} {ms : Members} {n r : List ℕ} → ReadyPair d ms n r → {x : Json} {t w : List ℕ} → Shows d x t → Ws w → ShowsMembers d ms n x (r ++ (t ++ w))
 add_pair {d} (rp_first {n = n} {u = u} {w = v} nm vs) {x} {t} {w} sh ws =

@@ -1,11 +1,11 @@
 -- Parts of bytes, put together, and the automaton's steps.
 -- Assumes nothing.
-use Rattle.std.proofs.Common.{◌≡◌, ℕ, true, false, List, [], ◌∷◌, ◌++◌, length, sym, refl, ap, ◌∙◌, append_assoc, arith}
+use Rattle.std.proofs.Common.{◌≡◌, ℕ, true, List, [], ◌∷◌, ◌++◌, length, sym, refl, ap, ◌∙◌, append_assoc, arith}
 use Rattle.grammar.specs.Grammar.{Ws}
 use Rattle.grammar.specs.Machine.{St, bad, go, open_end, stuck, step, finish, run, stopped}
 use Rattle.grammar.specs.Terminals.{is_blank}
 use Rattle.grammar.proofs.Complete.{turn, run_go, run-same, r_ws}
-use Rattle.documents.specs.Reading.{Part, blank_next, NoBlank}
+use Rattle.documents.specs.Reading.{Part}
 
 pub part_none : (P : List ℕ → Type 0) (s : List ℕ) → P [] → Part P s s
 part_none P s p = record { text = []; splits = refl; holds = p }
@@ -38,8 +38,6 @@ empty [] h = refl
 empty (b ∷ s) h = absurd (omega arith)
 
 -- ---- white space
-pub blank_not : (s r : List ℕ) (b : ℕ) → s ≡ b ∷ r → NoBlank s → is_blank b ≡ false
-blank_not s r b e n = sym (ap blank_next e) ∙ n
 
 pub skip : {s r : List ℕ} (m : St) → ((b : ℕ) → is_blank b ≡ true → step m b ≡ go m) → Part Ws s r → run m s ≡ run m r
 skip {s} {r} m f p = rw p.splits (r_ws m f p.holds r)

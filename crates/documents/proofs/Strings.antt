@@ -8,23 +8,18 @@ use Rattle.grammar.specs.Terminals.{fits, char_of, behind, escape_of, first_of, 
 use Rattle.grammar.specs.declared.kinds.Class.{Class}
 use Rattle.grammar.specs.declared.kinds.Class.TheVariants.{Hex}
 use Rattle.grammar.specs.declared.kinds.Lead.{Lead}
-use Rattle.grammar.specs.declared.kinds.Char.TheVariants.{Plain, EndQuote, Back, Long}
+use Rattle.grammar.specs.declared.kinds.Char.TheVariants.{Plain, Back, Long}
 use Rattle.grammar.specs.declared.kinds.Escape.TheVariants.{Simple, CodeUnit}
 use Rattle.grammar.specs.declared.kinds.FirstHex.TheVariants.{FirstD, OtherHex}
 use Rattle.grammar.specs.declared.kinds.SecondHex.TheVariants.{Whole, High}
 use Rattle.grammar.proofs.Complete.{c_chars}
-use Rattle.documents.specs.Reading.{Part, Refuses, AnyString, AnyEscape, AnyUnit, AnyUnitD, Each, Differs, AfterBack, AfterU, AfterD, GotString}
+use Rattle.documents.specs.Reading.{Part, Refuses, AnyString, AnyEscape, AnyUnit, AnyUnitD, Each, Differs, AfterBack, AfterU, AfterD}
 use Rattle.documents.proofs.Parts.{part_none, part_one, part_more, part_then, part_front, go_at, bad_at, end_at}
 use Rattle.documents.proofs.Words.{seq_part, seq_stops}
 
 -- ---- the digits of a code unit
-pub d_end : (s : List ℕ) → length s ≡ 0 → Refuses AnyUnitD s s
-d_end s e d g x b k = end_at (uni_d d g x b k) s e refl
 
 module _ (s r : List ℕ) (c : ℕ) (h : s ≡ c ∷ r) where
-  pub d_bad : second_of c ≡ None → Refuses AnyUnitD s s
-  d_bad e d g x b k = bad_at (uni_d d g x b k) s r c h (ap (λ y. step_uni_d y c d g x b k) e)
-
   pub d_whole : second_of c ≡ Some Whole → (q : List ℕ) → Part (Each Class fits (Hex ∷ Hex ∷ [])) r q → Part AfterD s q
   d_whole e q p = part_front (Seq (Hex ∷ Hex ∷ [])) AfterD s r q c h (λ t y x b f cs. c_unit_d b c cs f e y) (seq_part p)
 
@@ -41,13 +36,7 @@ module _ (s r : List ℕ) (c : ℕ) (h : s ≡ c ∷ r) where
       go_at (uni_d d g x b k) (seq_go pair_tail d g x (92 ∷ 117 ∷ b ∷ c ∷ []) k) s r c h (ap (λ y. step_uni_d y c d g x b k) e)
       ∙ seq_stops pair_tail r q f d g x (92 ∷ 117 ∷ b ∷ c ∷ []) k
 
-pub u_end : (s : List ℕ) → length s ≡ 0 → Refuses AnyUnit s s
-u_end s e d g x k = end_at (uni d g x k) s e refl
-
 module _ (s r : List ℕ) (b : ℕ) (h : s ≡ b ∷ r) where
-  pub u_bad : first_of b ≡ None → Refuses AnyUnit s s
-  u_bad e d g x k = bad_at (uni d g x k) s r b h (ap (λ y. step_uni y b d g x k) e)
-
   pub u_other : first_of b ≡ Some OtherHex → (q : List ℕ) → Part (Each Class fits (Hex ∷ Hex ∷ Hex ∷ [])) r q → Part AfterU s q
   u_other e q p = part_front (Seq (Hex ∷ Hex ∷ Hex ∷ [])) AfterU s r q b h (λ t y x cs. c_unit b cs e y) (seq_part p)
 
@@ -66,13 +55,7 @@ module _ (s r : List ℕ) (b : ℕ) (h : s ≡ b ∷ r) where
 unit_is : (b : ℕ) → escape_of b ≡ Some CodeUnit → b ≡ 117
 unit_is b h = grind (arith, nat_tests)
 
-pub e_end : (s : List ℕ) → length s ≡ 0 → Refuses AnyEscape s s
-e_end s e d g x k = end_at (esc d g x k) s e refl
-
 module _ (s r : List ℕ) (b : ℕ) (h : s ≡ b ∷ r) where
-  pub e_bad : escape_of b ≡ None → Refuses AnyEscape s s
-  e_bad e d g x k = bad_at (esc d g x k) s r b h (ap (λ y. step_esc y b d g x k) e)
-
   pub e_simple : escape_of b ≡ Some Simple → Part AfterBack s r
   e_simple e = part_one AfterBack s r b h (λ x cs. c_escape b cs e)
 
@@ -85,9 +68,6 @@ module _ (s r : List ℕ) (b : ℕ) (h : s ≡ b ∷ r) where
 -- ---- characters
 back_is : (b : ℕ) → char_of b ≡ Some Back → b ≡ 92
 back_is b h = grind (arith, nat_tests)
-
-end_is : (b : ℕ) → char_of b ≡ Some EndQuote → b ≡ 34
-end_is b h = grind (arith, nat_tests)
 
 pub str_at : {s r : List ℕ} (p : Part Chars s r) (d : ℕ) (g : Role) (k : Stack) → run (chars d g [] k) s ≡ run (chars d g p.text k) r
 str_at {s} {r} p d g k = rw p.splits (c_chars p.holds d g k r)
@@ -109,9 +89,6 @@ module _ (s r : List ℕ) (p : Part Chars s r) where
   module _ (u : List ℕ) (b : ℕ) (h : r ≡ b ∷ u) where
     pub str_bad : char_of b ≡ None → Refuses AnyString s r
     str_bad e d g k = str_at p d g k ∙ bad_at (chars d g p.text k) r u b h (ap (λ y. step_chars y b d g p.text k) e)
-
-    pub str_close : char_of b ≡ Some EndQuote → GotString s u
-    str_close e = subst (λ (x : List ℕ). Part Chars s x) (h ∙ ap (λ (x : ℕ). x ∷ u) (end_is b e)) p
 
     pub str_plain : char_of b ≡ Some Plain → Part Chars s u
     str_plain e = part_more Chars s r u b (λ t x. c_plain b x e) p h

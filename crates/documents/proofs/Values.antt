@@ -1,18 +1,18 @@
 -- Values.
 -- Assumes nothing.
-use Rattle.std.proofs.Common.{◌≡◌, ℕ, suc, ◌-◌, ◌<◌, true, false, List, [], ◌∷◌, ◌++◌, length, Some, None, Option, sym, refl, ap, ◌∙◌, subst, append_assoc, arith}
+use Rattle.std.proofs.Common.{◌≡◌, ℕ, suc, ◌-◌, ◌<◌, true, List, [], ◌∷◌, ◌++◌, Some, Option, sym, refl, ap, ◌∙◌, subst, append_assoc, arith}
 use Rattle.std.proofs.lemmas.Bool.Decides.{nat_tests}
 use Rattle.grammar.specs.Ast.{Json, null, tru, fals, num, str}
 use Rattle.grammar.specs.Grammar.{Shows, s_null, s_true, s_false, s_num, s_str}
-use Rattle.grammar.specs.Machine.{Stack, value, St, val, first, members, aft, nums, chars, lit, bad, go, open_array, open_object, step_val, run, stopped}
+use Rattle.grammar.specs.Machine.{Stack, value, St, val, first, members, aft, nums, chars, lit, go, step_val, run}
 use Rattle.grammar.specs.Numbers.{p_one, At, a_minus, a_zero, a_whole}
-use Rattle.grammar.specs.Terminals.{is_blank, is_positive, start_of}
+use Rattle.grammar.specs.Terminals.{is_positive, start_of}
 use Rattle.grammar.specs.declared.kinds.Start.{Start}
-use Rattle.grammar.specs.declared.kinds.Start.TheVariants.{Blank, Quote, Minus, Zero, Positive, OpenArray, OpenObject, LitT, LitF, LitN}
+use Rattle.grammar.specs.declared.kinds.Start.TheVariants.{Quote, Minus, Zero, Positive, OpenArray, OpenObject, LitT, LitF, LitN}
 use Rattle.grammar.specs.declared.kinds.Phase.{Phase}
 use Rattle.grammar.specs.declared.kinds.Phase.TheVariants.{AtMinus, AtZero, AtWhole}
-use Rattle.documents.specs.Reading.{Part, Refuses, NoBlank, AnyValue, AnyArray, AnyObject, AnyNumber, AnyString, Each, Differs, GotString, GotNumber, GotValue, GotArray, GotObject}
-use Rattle.documents.proofs.Parts.{part_front, blank_not, go_at, bad_at, end_at}
+use Rattle.documents.specs.Reading.{Part, Refuses, AnyValue, AnyArray, AnyObject, AnyNumber, AnyString, Each, Differs, GotString, GotNumber, GotValue, GotArray, GotObject}
+use Rattle.documents.proofs.Parts.{part_front, go_at}
 use Rattle.documents.proofs.Words.{SameByte, word_part, word_stops}
 use Rattle.documents.proofs.Strings.{str_at}
 
@@ -44,31 +44,12 @@ f_is b h = grind (arith, nat_tests)
 n_is : (b : ℕ) → start_of b ≡ Some LitN → b ≡ 110
 n_is b h = grind (arith, nat_tests)
 
-blank_is : (b : ℕ) → start_of b ≡ Some Blank → is_blank b ≡ true
-blank_is b h = grind (arith, nat_tests)
-
 back : (d : ℕ) → 0 < d → suc (d - 1) ≡ d
 back d h = omega arith
-
-pub v_end : (s : List ℕ) (d : ℕ) → length s ≡ 0 → Refuses (AnyValue d) s s
-v_end s d h k = end_at (val d k) s h refl
 
 module _ (s r : List ℕ) (d b : ℕ) (h : s ≡ b ∷ r) where
   val_go : (c : Option Start) → start_of b ≡ c → (k : Stack) (n : St) → step_val c b d k ≡ go n → run (val d k) s ≡ run n r
   val_go c e k n g = go_at (val d k) n s r b h (ap (λ x. step_val x b d k) e ∙ g)
-
-  val_bad : (c : Option Start) → start_of b ≡ c → (k : Stack) → step_val c b d k ≡ bad → run (val d k) s ≡ stopped s
-  val_bad c e k g = bad_at (val d k) s r b h (ap (λ x. step_val x b d k) e ∙ g)
-
-  pub v_none : start_of b ≡ None → Refuses (AnyValue d) s s
-  v_none e k = val_bad None e k refl
-
-  pub v_blank : start_of b ≡ Some Blank → NoBlank s → ⊥
-  v_blank e n =
-      let f : is_blank b ≡ false = blank_not s r b h n in
-      let t : is_blank b ≡ true = blank_is b e in
-      let z : ◌≡◌ {A = ℕ} 0 1 = cc in
-      omega arith
 
   -- ---- strings
   pub v_string : start_of b ≡ Some Quote → (q : List ℕ) → GotString r q → GotValue d s q
@@ -150,13 +131,7 @@ module _ (s r : List ℕ) (d b : ℕ) (h : s ≡ b ∷ r) where
 
   pub v_no_null : start_of b ≡ Some LitN → (q : List ℕ) → Differs ℕ SameByte (117 ∷ 108 ∷ 108 ∷ []) r q → Refuses (AnyValue d) s q
   v_no_null e q g = v_no_word (Some LitN) (117 ∷ 108 ∷ 108 ∷ []) null e (λ k. refl) q g
-
   -- ---- arrays and objects
-  pub v_deep_array : start_of b ≡ Some OpenArray → d ≡ 0 → Refuses (AnyValue d) s s
-  v_deep_array e z k = val_bad (Some OpenArray) e k (ap (λ (x : ℕ). open_array x k) z)
-
-  pub v_deep_object : start_of b ≡ Some OpenObject → d ≡ 0 → Refuses (AnyValue d) s s
-  v_deep_object e z k = val_bad (Some OpenObject) e k (ap (λ (x : ℕ). open_object x k) z)
 
 module _ (s r : List ℕ) (d b : ℕ) (h : s ≡ b ∷ r) where
   array : start_of b ≡ Some OpenArray → (q : List ℕ) → GotArray d r q → GotValue (suc d) s q

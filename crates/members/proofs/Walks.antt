@@ -1,7 +1,6 @@
 -- Members one by one, and the one that is looked for.
 -- Assumes nothing.
 use Rattle.std.proofs.Common.{◌≡◌, ℕ, suc, ◌+◌, ◌-◌, ◌<◌, ◌≤◌, Bool, true, false, cond, List, [], ◌∷◌, ◌++◌, length, take, drop, Some, None, Option, sym, refl, ap, ◌∙◌, subst, append_assoc, arith, length-append, length-drop, take-append-drop}
-use Rattle.std.proofs.lemmas.List.{drop_all}
 use Rattle.std.specs.List.{slice_range}
 use Rattle.std.specs.Option.{option_or}
 use Rattle.std.specs.Bool.{then_some}
@@ -93,9 +92,6 @@ pub w_begin : (s : List ℕ) (d a : ℕ) (r want : List ℕ) → Part Ws (drop a
 unfolding o_begin
 w_begin s d a r want p n u = record { at_name = o_begin d (drop a s) r p n u; seen = refl }
 
-pub w_rest : (s : List ℕ) (d a : ℕ) (r want : List ℕ) (o : Option ValuePlace) → Walking s d a r want o → Rest s r
-w_rest s d a r want o w = rest_part s (drop a s) r (rest_drop s a) w.at_name.part
-
 pub w_pair : (s : List ℕ) (d a : ℕ) (r n v q e want : List ℕ) (o : Option ValuePlace) (p : ValuePlace) (z : Bool) (u : Option ValuePlace) → a ≤ length s → Walking s d a r want o → GotName r n v → GotValue d v q → Part Ws q e → p ≡ record { from = length s - length v; to = length s - length q } → z ≡ same (undone Plain n) want → u ≡ option_or o (then_some z p) → Past s d a e want u
 unfolding o_name o_pair
 w_pair s d a r n v q e want o p z u h w g x sp pl f k =
@@ -127,11 +123,6 @@ bare_ws (w_more b ws e) u = rw append_assoc (bare_ws ws (b ∷ u) ∙ ap (λ (z 
 
 bare_at : (s r : List ℕ) → Part Ws s r → NoBlank r → bare s ≡ r
 bare_at s r p n = ap bare p.splits ∙ (bare_ws p.holds r ∙ bare_plain r n)
-
-pub l_outside : (s : List ℕ) (a : ℕ) → length s < a → (t : List ℕ) → bare (drop a s) ≡ 123 ∷ t → ⊥
-l_outside s a h t e =
-    let g : [] ≡ 123 ∷ t = sym (ap bare (drop_all a s (omega arith))) ∙ e in
-    grind arith
 
 other : (r t : List ℕ) → Unlike ℕ SameByte 123 r → r ≡ 123 ∷ t → ⊥
 other [] t u e = grind arith
