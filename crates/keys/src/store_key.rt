@@ -8,7 +8,7 @@ mod prefix;
 pub use make::{is_key, is_prefix};
 use paths::Inline;
 
-// Kept: two types, since a struct with a ghost field takes no `bool` const parameter, and that is what they would differ by.
+// Kept: two types of one field, whose functions are shared; one type would need a marker and a trait for each form, which is longer than both.
 
 // A key: 1 to 400 bytes of text, no `/` at either end and no `//`.
 #[derive(Clone, Copy)]

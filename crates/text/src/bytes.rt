@@ -30,6 +30,7 @@ pub fn begins_with(text: &[u8], prefix: &[u8]) -> bool
 }
 
 // What a byte counts where two byte strings first differ.
+// Kept: a trait, since the contract names the ranks as a function, and of a closure it could only say what each call gave.
 pub trait ByteRank {
     ghost ranks: { ℕ → ℕ };
 
