@@ -65,6 +65,8 @@ impl Pile {
         }
     }
 
+    // The call, performed through the three layers.
+    // Kept: work done through the layers of `piles` has to tell what it does to a store, which no call of a script tells.
     fn perform_through<S: WriteStore>(
         &self,
         session: &mut Session,
