@@ -60,6 +60,7 @@ impl Marks {
 }
 
 impl Kind {
+    // Kept: a text and no `Display`, since the report pads it to a column.
     pub fn name(self) -> &'static str
         ensures { result.now ≡ kind_name self }
     {

@@ -1,4 +1,5 @@
 // Little-endian numbers.
+// Kept: a function for each size, since `from_le_bytes` belongs to each number type and to no trait.
 ghost use Rattle.std.specs.Prelude.{◌≡◌, ◌+◌, ◌<◌, ◌≤◌, length};
 ghost use Rattle.images.specs.Layout.{number2, number4};
 

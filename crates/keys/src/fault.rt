@@ -1,4 +1,5 @@
 // What a store refuses.
+ghost use Rattle.std.specs.Prelude.{◌≡◌};
 ghost use Rattle.keys.specs.Faults.{told_of_store};
 
 use text::{Fault, FaultReport, Layer};
@@ -31,5 +32,14 @@ impl Fault for StoreFault {
             layer: Layer::Store,
             position: 0,
         }
+    }
+}
+
+// So a `?` reports what is refused.
+impl From<StoreFault> for FaultReport {
+    ghost from_gives = { λ fault report. report ≡ told_of_store fault };
+
+    fn from(fault: StoreFault) -> FaultReport {
+        fault.report()
     }
 }

@@ -1,4 +1,5 @@
 // What the path layer refuses.
+ghost use Rattle.std.specs.Prelude.{◌≡◌};
 ghost use Rattle.paths.specs.Faults.{told_of_path};
 
 use text::{Fault, FaultReport, Layer};
@@ -23,5 +24,14 @@ impl Fault for PathFault {
             layer: Layer::Path,
             position: 0,
         }
+    }
+}
+
+// So a `?` reports what is refused.
+impl From<PathFault> for FaultReport {
+    ghost from_gives = { λ fault report. report ≡ told_of_path fault };
+
+    fn from(fault: PathFault) -> FaultReport {
+        fault.report()
     }
 }

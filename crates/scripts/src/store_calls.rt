@@ -107,9 +107,12 @@ fn key_after<S: ListStore>(
     store: &S,
     after: &[u8],
 ) -> Result<Option<Vec<u8>>, AllocError> {
-    let mut key = [0u8; 400];
-    match store.next_key(b"", after, &mut key) {
-        Ok(Some(n)) => Ok(Some(Vec::from_slice(heap, &key[..n.min(400)])?)),
+    let mut key = vec![in heap; 0u8; store.longest_key()]?;
+    match store.next_key(b"", after, key.as_mut_slice()) {
+        Ok(Some(n)) => {
+            key.truncate(n);
+            Ok(Some(key))
+        }
         Ok(None) | Err(_) => Ok(None),
     }
 }

@@ -4,7 +4,7 @@ use keys::{MetadataFile, StoreKey};
 use paths::{NodeName, NodePath};
 use std::alloc::AllocError;
 use std::cmp::Ordering;
-use text::{Fault, FaultReport};
+use text::FaultReport;
 
 // What such a call gives.
 #[derive(Clone, Copy)]
@@ -38,42 +38,37 @@ fn order_line(order: Ordering) -> &'static [u8] {
     }
 }
 
-// The same, its refusal as it is reported.
-fn reported<T, F: Fault + Drop>(answer: Result<T, F>) -> Result<T, FaultReport> {
-    answer.map_err(|fault| fault.report())
-}
-
 pub(crate) fn name(text: &[u8]) -> Result<Given, FaultReport> {
-    reported(NodeName::new(text))?;
+    NodeName::new(text)?;
     Ok(Given::Done)
 }
 
 pub(crate) fn path(text: &[u8]) -> Result<Given, FaultReport> {
-    Ok(Given::Path(reported(NodePath::new(text))?))
+    Ok(Given::Path(NodePath::new(text)?))
 }
 
 pub(crate) fn parent(text: &[u8]) -> Result<Given, FaultReport> {
-    let path = reported(NodePath::new(text))?;
+    let path = NodePath::new(text)?;
     Ok(path.parent().map_or(Given::Nothing, Given::Path))
 }
 
 pub(crate) fn join(base: &[u8], relative: &[u8]) -> Result<Given, FaultReport> {
-    let base = reported(NodePath::new(base))?;
-    Ok(Given::Path(reported(base.join(relative))?))
+    let base = NodePath::new(base)?;
+    Ok(Given::Path(base.join(relative)?))
 }
 
 pub(crate) fn compare(one: &[u8], two: &[u8]) -> Result<Given, FaultReport> {
-    let one = reported(NodePath::new(one))?;
-    let two = reported(NodePath::new(two))?;
+    let one = NodePath::new(one)?;
+    let two = NodePath::new(two)?;
     Ok(Given::Order(one.cmp(&two)))
 }
 
 pub(crate) fn key(file: MetadataFile, path: &[u8]) -> Result<Given, FaultReport> {
-    let path = reported(NodePath::new(path))?;
+    let path = NodePath::new(path)?;
     Ok(Given::Key(keys::meta_key(&path, file)))
 }
 
 pub(crate) fn data_key(path: &[u8], chunk: &[u8]) -> Result<Given, FaultReport> {
-    let path = reported(NodePath::new(path))?;
-    Ok(Given::Key(reported(keys::data_key(&path, chunk))?))
+    let path = NodePath::new(path)?;
+    Ok(Given::Key(keys::data_key(&path, chunk)?))
 }

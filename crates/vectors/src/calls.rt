@@ -4,9 +4,10 @@ use paths::{NodeName, NodePath, PathRow};
 use std::alloc::{AllocError, Global};
 use std::cmp::Ordering;
 use std::str;
-use text::{Fault, FaultReport};
+use text::FaultReport;
 
 // What a call gives.
+// Kept: beside the calls of `scripts`, whose answers are other lines; a crate for both, with contracts, would be longer than these.
 #[derive(Clone, Copy)]
 pub(crate) enum Given {
     Test(bool),
@@ -67,19 +68,14 @@ fn granted(heap: Global, bytes: &[u8]) -> Result<Vec<u8>, AllocError> {
     Ok(out)
 }
 
-// The same, its refusal as it is reported.
-fn reported<T, F: Fault + Drop>(answer: Result<T, F>) -> Result<T, FaultReport> {
-    answer.map_err(|fault| fault.report())
-}
-
 fn one(call: &str, a: &[u8]) -> Option<Result<Given, FaultReport>> {
     match call {
         "text" => Some(Ok(Given::Test(text::is_text(a)))),
-        "name" => Some(reported(NodeName::new(a)).map(|_| Given::Done)),
-        "path" => Some(reported(NodePath::new(a)).map(Given::Path)),
+        "name" => Some(name(a)),
+        "path" => Some(path(a)),
         "row" => Some(row(a)),
         "parent" => Some(parent(a)),
-        "last-name" => Some(reported(NodePath::new(a)).map(Given::Name)),
+        "last-name" => Some(last_name(a)),
         "depth" => Some(depth(a)),
         "is-key" => Some(Ok(Given::Test(keys::is_key(a)))),
         "is-prefix" => Some(Ok(Given::Test(keys::is_prefix(a)))),
@@ -99,45 +95,58 @@ fn two(call: &str, a: &[u8], b: &[u8]) -> Option<Result<Given, FaultReport>> {
     }
 }
 
+fn name(text: &[u8]) -> Result<Given, FaultReport> {
+    NodeName::new(text)?;
+    Ok(Given::Done)
+}
+
+fn path(text: &[u8]) -> Result<Given, FaultReport> {
+    Ok(Given::Path(NodePath::new(text)?))
+}
+
+fn last_name(path: &[u8]) -> Result<Given, FaultReport> {
+    Ok(Given::Name(NodePath::new(path)?))
+}
+
 fn row(path: &[u8]) -> Result<Given, FaultReport> {
-    let path = reported(NodePath::new(path))?;
+    let path = NodePath::new(path)?;
     let row = PathRow::from(&path);
-    Ok(Given::Path(reported(NodePath::try_from(&row))?))
+    Ok(Given::Path(NodePath::try_from(&row)?))
 }
 
 fn parent(path: &[u8]) -> Result<Given, FaultReport> {
-    let path = reported(NodePath::new(path))?;
+    let path = NodePath::new(path)?;
     Ok(path.parent().map_or(Given::Nothing, Given::Path))
 }
 
 fn depth(path: &[u8]) -> Result<Given, FaultReport> {
-    let path = reported(NodePath::new(path))?;
+    let path = NodePath::new(path)?;
     Ok(Given::Depth(path.depth()))
 }
 
 fn prefix(path: &[u8]) -> Result<Given, FaultReport> {
-    let path = reported(NodePath::new(path))?;
+    let path = NodePath::new(path)?;
     Ok(Given::Prefix(keys::prefix_of(&path)))
 }
 
 fn from_prefix(prefix: &[u8]) -> Result<Given, FaultReport> {
-    let prefix = reported(StorePrefix::new(prefix))?;
-    Ok(Given::Path(reported(keys::path_of_prefix(&prefix))?))
+    let prefix = StorePrefix::new(prefix)?;
+    Ok(Given::Path(keys::path_of_prefix(&prefix)?))
 }
 
 fn join(base: &[u8], relative: &[u8]) -> Result<Given, FaultReport> {
-    let base = reported(NodePath::new(base))?;
-    Ok(Given::Path(reported(base.join(relative))?))
+    let base = NodePath::new(base)?;
+    Ok(Given::Path(base.join(relative)?))
 }
 
 fn compare(one: &[u8], two: &[u8]) -> Result<Given, FaultReport> {
-    let one = reported(NodePath::new(one))?;
-    let two = reported(NodePath::new(two))?;
+    let one = NodePath::new(one)?;
+    let two = NodePath::new(two)?;
     Ok(Given::Order(one.cmp(&two)))
 }
 
 fn meta_key(file: &[u8], path: &[u8]) -> Result<Given, FaultReport> {
-    let path = reported(NodePath::new(path))?;
+    let path = NodePath::new(path)?;
     let file = match file {
         b"v3" => MetadataFile::ZarrJson,
         b"array" => MetadataFile::Zarray,
@@ -148,6 +157,6 @@ fn meta_key(file: &[u8], path: &[u8]) -> Result<Given, FaultReport> {
 }
 
 fn data_key(path: &[u8], chunk: &[u8]) -> Result<Given, FaultReport> {
-    let path = reported(NodePath::new(path))?;
-    Ok(Given::Key(reported(keys::data_key(&path, chunk))?))
+    let path = NodePath::new(path)?;
+    Ok(Given::Key(keys::data_key(&path, chunk)?))
 }

@@ -14,6 +14,7 @@ fn pair_value(pair: &[u8]) -> u8 {
     })
 }
 
+// Kept: a vector writes lower-case digits only, and the library's `to_digit` would read the others too.
 fn digit_value(digit: u8) -> u8 {
     match digit {
         b'0'..=b'9' => digit - b'0',

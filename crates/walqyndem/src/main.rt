@@ -14,10 +14,7 @@ use std::process::ExitCode;
 
 fn run(rt: &HostRuntime) -> Result<(), Failure> {
     let heap = rt.alloc();
-    let mut words = Vec::new(heap);
-    for word in env::args(rt)?.skip(1) {
-        words.push(word)?;
-    }
+    let words: Vec<String> = env::args(rt)?.skip(1).collect(heap)?;
     match command::parse(words.as_slice()) {
         Ok(Command::Help) => {
             print!(rt; "{}", command::USAGE)?;

@@ -65,9 +65,5 @@ fn hex_value(digit: u8) -> u8
     ensures is { result ≡ hex_value digit }
     ensures small { result < 16 }
 {
-    match digit {
-        b'0'..=b'9' => digit - b'0',
-        b'a'..=b'f' => digit - b'a' + 10,
-        _ => digit - b'A' + 10,
-    }
+    (digit as char).to_digit(16).unwrap_or(0) as u8
 }

@@ -85,10 +85,10 @@ pub(crate) fn build(
     requires { (length front.now + length middle.now + length back.now ≤ 255 → is_path_text (front.now ++ (middle.now ++ back.now)) ≡ true) × (names ≡ length (names_in (front.now ++ (middle.now ++ back.now)))) }
     ensures { MatchResult result (λ p. path_text p ≡ front.now ++ (middle.now ++ back.now)) (λ e. (e ≡ PathFault.OverLimits) × (255 < length front.now + length middle.now + length back.now)) }
 {
-    match Inline::of(front, middle, back) {
-        Some(text) => Ok(NodePath { text, names }),
-        None => Err(PathFault::OverLimits),
-    }
+    let Some(text) = Inline::of(front, middle, back) else {
+        return Err(PathFault::OverLimits);
+    };
+    Ok(NodePath { text, names })
 }
 
 // How many names stand in a text with `/` between them, or none if one of them is unlawful.

@@ -25,6 +25,7 @@ impl Slot {
     }
 }
 
+// Kept: a slot goes by its key's bytes alone; to derive these, the key would need the same four.
 impl PartialEq for Slot {
     ghost eq = { λ a b. same (slot_text a) (slot_text b) };
 
