@@ -3,7 +3,7 @@
 # `count-places.sh -v` prints the lines too. Tests are left out.
 cd "$(dirname "$0")/../crates" || exit 1
 
-sources() { find . -path '*/src/*' -name '*.rt' ! -name 'tests.rt' | sort; }
+sources() { find */src -name '*.rt' ! -name 'tests.rt' | sort; }
 
 # how many lines of the sources match, and with -v which
 count() {
@@ -35,5 +35,5 @@ count 6a '^ +(pub(\(crate\))? )?(len|used|count): (usize|u8),' 'a length beside 
 count 6b '\[0u8; ?[0-9A-Z]+\]' 'buffers of a fixed size'
 count 7a '\b(Work|Put|ByteRank)\b' 'strategies by a trait'
 count 7b '\bdyn |\bFn(Mut|Once)?\(' 'closures taken and dyn'
-printf '%-4s %4d  %s\n' 8a "$(find . -path '*/proofs/*' -name '*.antt' | xargs cat | wc -l)" 'lines of proofs'
-printf '%-4s %4d  %s\n' 8b "$(find . -path '*/proofs/*' -name 'Answers.antt' | wc -l)" 'files of answers'
+printf '%-4s %4d  %s\n' 8a "$(find */proofs -name '*.antt' | xargs cat | wc -l)" 'lines of proofs'
+printf '%-4s %4d  %s\n' 8b "$(find */proofs -name 'Answers.antt' | wc -l)" 'files of answers'
