@@ -84,6 +84,7 @@ impl Walk<'_> {
     // Notes an entry that is a folder, or a link to one.
     fn see_entry(&mut self, folder: &str, entry: &fs::DirEntry) -> Result<(), Failure> {
         let path = found::below(self.rt.alloc(), folder, entry.file_name())?;
+        // Kept: a closure for `map_err` would take the path, which is still needed.
         let kind = match entry.file_type() {
             Ok(kind) => kind,
             Err(why) => return Err(Failure::Unreadable { path, why }),
