@@ -34,12 +34,3 @@ impl Fault for StoreFault {
         }
     }
 }
-
-// So a `?` reports what is refused.
-impl From<StoreFault> for FaultReport {
-    ghost from_gives = { λ fault report. report ≡ told_of_store fault };
-
-    fn from(fault: StoreFault) -> FaultReport {
-        fault.report()
-    }
-}

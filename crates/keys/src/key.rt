@@ -6,7 +6,7 @@ ghost use Rattle.keys.specs.Values.{key_text, key_in};
 
 use crate::fault::StoreFault;
 use crate::file::MetadataFile;
-use crate::store_key::StoreKey;
+use crate::store_key::{MAX_KEY, StoreKey};
 use paths::{Inline, NodePath};
 
 // The key of one of a node's metadata files: the path without its first `/`, then `/` and the file's name.
@@ -21,9 +21,7 @@ pub fn meta_key(path: &NodePath, file: MetadataFile) -> StoreKey
 pub fn data_key(path: &NodePath, chunk_key: &[u8]) -> Result<StoreKey, StoreFault>
     ensures { key_in result ≡ data_key (names_of path.now) chunk_key.now }
 {
-    let Some(key) = behind_prefix::<400>(path, chunk_key) else {
-        return Err(StoreFault::Malformed);
-    };
+    let key = behind_prefix::<MAX_KEY>(path, chunk_key).ok_or(StoreFault::Malformed)?;
     StoreKey::new(key.as_bytes())
 }
 

@@ -15,4 +15,4 @@ pub use laws::{
     examples_hold, key_and_prefix_forms, keys_differ, keys_under_prefix, path_keys_are_keys,
 };
 pub use prefix::{path_of_prefix, prefix_of};
-pub use store_key::{StoreKey, StorePrefix, is_key, is_prefix};
+pub use store_key::{MAX_KEY, MAX_PREFIX, StoreKey, StorePrefix, is_key, is_prefix};

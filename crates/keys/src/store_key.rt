@@ -8,18 +8,22 @@ mod prefix;
 pub use make::{is_key, is_prefix};
 use paths::Inline;
 
+// The most bytes of a key, and of a prefix, which may end with a `/`.
+pub const MAX_KEY: usize = 400;
+pub const MAX_PREFIX: usize = 401;
+
 // Kept: two types of one field, whose functions are shared; one type would need a marker and a trait for each form, which is longer than both.
 
 // A key: 1 to 400 bytes of text, no `/` at either end and no `//`.
 #[derive(Clone, Copy)]
 pub struct StoreKey {
-    pub(crate) text: Inline<400>,
+    pub(crate) text: Inline<MAX_KEY>,
     ghost well: { is_key (take text.len text.bytes) ≡ true },
 }
 
 // A prefix: empty, or a key and `/`.
 #[derive(Clone, Copy)]
 pub struct StorePrefix {
-    pub(crate) text: Inline<401>,
+    pub(crate) text: Inline<MAX_PREFIX>,
     ghost well: { is_prefix (take text.len text.bytes) ≡ true },
 }

@@ -26,12 +26,3 @@ impl Fault for PathFault {
         }
     }
 }
-
-// So a `?` reports what is refused.
-impl From<PathFault> for FaultReport {
-    ghost from_gives = { λ fault report. report ≡ told_of_path fault };
-
-    fn from(fault: PathFault) -> FaultReport {
-        fault.report()
-    }
-}

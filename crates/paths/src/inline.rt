@@ -3,7 +3,7 @@ ghost use Rattle.std.specs.Prelude.{◌≡◌, ◌+◌, ◌<◌, ◌≤◌, true
 ghost use Rattle.paths.specs.Held.{all_zero};
 
 // A byte string of at most N bytes, kept in place; the bytes behind it are zero, so equal texts are equal values.
-// Kept: no heap in the engine, and a path has the same size wherever it lies, so the length lies beside the bytes.
+// Kept: the library's array types keep no zeros behind the text, which is what makes equal texts equal in memory; no heap in the engine.
 #[derive(Clone, Copy)]
 pub struct Inline<const N: usize> {
     pub(crate) bytes: [u8; N],
@@ -32,8 +32,7 @@ impl<const N: usize> Inline<N> {
     pub fn as_bytes(&self) -> &[u8]
         ensures { result.now ≡ take self.now.len self.now.bytes }
     {
-        let all = &self.bytes[..];
-        &all[..self.len]
+        &self.bytes[..self.len]
     }
 }
 

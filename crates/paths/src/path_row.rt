@@ -6,7 +6,7 @@ ghost use Rattle.paths.specs.Values.{path_in, row_text};
 use crate::fault::PathFault;
 use crate::node_path::NodePath;
 
-// Kept: no heap in the engine, and a row has the same size wherever it lies, so the length lies beside the bytes.
+// Kept: a row is memory that nothing is known of, so it is no Inline, whose length and zeros are known.
 #[derive(Clone, Copy)]
 pub struct PathRow {
     pub bytes: [u8; 255],

@@ -1,8 +1,9 @@
 -- The rows of the table: what the code's rows say of bytes, and that one row at most begins with a byte.
 -- Assumes nothing.
-use Rattle.std.proofs.Common.{◌≡◌, ℕ, zero, suc, ◌+◌, ◌-◌, ◌*◌, ◌^◌, ◌<◌, ◌≤◌, Bool, true, false, cond, ◌&&◌, ◌==◌, ltb, leb, List, [], ◌∷◌, map, length, get_or, take, drop, Some, None, Option, unwrap_or, Bor, sym, refl, ap, ◌∙◌, subst, arith, rules, tests, leb-true, ltb-true, le-ltb, lt-ltb}
-use lib.Count.{count_leading_zeros, leading_unique}
+use Rattle.std.proofs.Common.{◌≡◌, ℕ, zero, suc, ◌+◌, ◌-◌, ◌*◌, ◌^◌, ◌<◌, ◌≤◌, Bool, true, false, cond, ◌&&◌, ◌==◌, ltb, leb, List, [], ◌∷◌, map, length, get_or, take, drop, Some, None, Option, unwrap_or, Bor, sym, refl, ap, ◌∙◌, subst, arith, rules, tests, leb-true, ltb-true, ltb-false, le-ltb, lt-ltb, max}
+use lib.Count.{count_leading_zeros, leading_unique, leading_length}
 use borrow.Author.Tests.{lt-leb, clash}
+use Rattle.std.proofs.Math.Nat.{max-eq_left}
 use Rattle.std.proofs.lemmas.List.{length-map, drop_all}
 use Rattle.std.specs.List.{list_all, find, zip}
 use Rattle.text.specs.Bytes.{Bytes}
@@ -175,3 +176,21 @@ none_begins h b [] e l = refl
 none_begins h b ([] ∷ more) e l = absurd (clash e)
 none_begins h b ((r ∷ p) ∷ more) e l =
     let s = rises h r p more e in rw (outside r b (omega arith)) (none_begins (suc r.high) b more s.2 (omega arith))
+
+-- ---- one, or as many as the leading ones
+one_bit : (b : ℕ) → b < 128 → 0 ≡ count_leading_zeros 8 (255 - b)
+one_bit b h = leading_unique 8 (255 - b) 0 8 refl (omega arith) (omega arith)
+
+some_ones : (b : ℕ) → 128 ≤ b → b < 256 → 1 ≤ count_leading_zeros 8 (255 - b)
+some_ones b l h = by (count_leading_zeros 8 (255 - b)) (leading_length 8 (255 - b) (omega arith))
+  where
+    by : (n : ℕ) → (m : ℕ) × (n + m ≡ 8) × (255 - b < 2 ^ m) × (2 ^ m ≤ 2 * (255 - b) + 1) → 1 ≤ n
+    by zero w = let f : w.0 ≡ 8 = omega (arith, w.1) in let e : 2 ^ w.0 ≡ 256 = ap (λ k. 2 ^ k) f in absurd (omega (arith, e, w.3))
+    by (suc n) w = omega arith
+
+pub width_is : (b n r : ℕ) → b < 256 → n ≡ count_leading_zeros 8 (255 - b) → r ≡ max n 1 → r ≡ width_of b
+width_is b n r h e m = by (ltb b 128) refl
+  where
+    by : (t : Bool) → ltb b 128 ≡ t → r ≡ cond t 1 (count_leading_zeros 8 (255 - b))
+    by true f = m ∙ ap (λ k. max k 1) (e ∙ sym (one_bit b (ltb-true b 128 f)))
+    by false f = m ∙ ap (λ k. max k 1) e ∙ max-eq_left (some_ones b (ltb-false b 128 f) h)

@@ -45,6 +45,7 @@ pub fn compare_by<R: ByteRank>(a: &[u8], b: &[u8]) -> Ordering
     match a.iter().zip(b).find(|(x, y)| x != y) {
         None => a.len().cmp(&b.len()),
         Some((x, y)) => {
+            // Kept: two bytes of one rank still differ, so this is not the order of the ranks.
             if R::rank(*x) < R::rank(*y) {
                 Ordering::Less
             } else {

@@ -67,3 +67,12 @@ pub trait Fault {
     fn report(&self) -> FaultReport
         ensures { result ≡ told self.now };
 }
+
+// So a `?` reports what is refused.
+impl<F: Fault + Drop> From<F> for FaultReport {
+    ghost from_gives = { λ fault report. report ≡ F.Fault.told fault };
+
+    fn from(fault: F) -> FaultReport {
+        fault.report()
+    }
+}

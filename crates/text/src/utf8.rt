@@ -39,14 +39,11 @@ fn fits(row: &[ByteRange], bytes: &[u8]) -> bool
     row.len() <= bytes.len() && row.iter().zip(bytes).all(|(range, b)| range.contains(*b))
 }
 
-// How many bytes a first byte asks for, by its leading ones.
+// How many bytes a first byte asks for: as many as it has leading ones, and one where it has none.
 fn width(b: u8) -> usize
     ensures { result ≡ width_of b }
 {
-    if b < 128 {
-        return 1;
-    }
-    (!b).leading_zeros() as usize
+    b.leading_ones().max(1) as usize
 }
 
 // How many bytes the well-formed sequence at `at` has, or none if none stands there.

@@ -3,12 +3,10 @@ ghost use Rattle.std.specs.Prelude.{◌≡◌, true, false, take, MatchResult};
 ghost use Rattle.keys.specs.Keys.{ends_fresh, form, well_formed, is_key, is_prefix, key_or_fault};
 ghost use Rattle.keys.specs.Values.{key_text, key_in};
 
-use super::StoreKey;
+use super::{MAX_KEY, MAX_PREFIX, StoreKey};
 use crate::fault::StoreFault;
 use paths::Inline;
 use text::is_text;
-
-const MAX_KEY: usize = 400;
 
 // Whether a text is a key: 1 to 400 bytes of text, no `/` at either end and no `//`.
 pub fn is_key(text: &[u8]) -> bool
@@ -21,7 +19,7 @@ pub fn is_key(text: &[u8]) -> bool
 pub fn is_prefix(text: &[u8]) -> bool
     ensures { result ≡ is_prefix text.now }
 {
-    is_well_formed(text, true, MAX_KEY + 1)
+    is_well_formed(text, true, MAX_PREFIX)
 }
 
 impl StoreKey {
@@ -70,7 +68,7 @@ fn ends_fresh(text: &[u8]) -> Option<bool>
     let mut fresh = true;
     for b in text {
         let slash = *b == b'/';
-        if fresh & slash {
+        if fresh && slash {
             return None;
         }
         fresh = slash;

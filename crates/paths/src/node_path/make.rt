@@ -85,9 +85,7 @@ pub(crate) fn build(
     requires { (length front.now + length middle.now + length back.now ≤ 255 → is_path_text (front.now ++ (middle.now ++ back.now)) ≡ true) × (names ≡ length (names_in (front.now ++ (middle.now ++ back.now)))) }
     ensures { MatchResult result (λ p. path_text p ≡ front.now ++ (middle.now ++ back.now)) (λ e. (e ≡ PathFault.OverLimits) × (255 < length front.now + length middle.now + length back.now)) }
 {
-    let Some(text) = Inline::of(front, middle, back) else {
-        return Err(PathFault::OverLimits);
-    };
+    let text = Inline::of(front, middle, back).ok_or(PathFault::OverLimits)?;
     Ok(NodePath { text, names })
 }
 

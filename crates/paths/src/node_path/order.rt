@@ -9,7 +9,7 @@ use super::NodePath;
 use std::cmp::Ordering;
 use text::{ByteRank, compare_by};
 
-// Kept: path order is not the order of the fields, where a length follows the bytes, and equality goes by names with it, so none of these four is derived.
+// Kept: paths compare name by name, which is no order of the fields, and equality has to agree with the order, so none of these four is derived.
 impl PartialEq for NodePath {
     ghost eq = { λ a b. same_path (names_of a) (names_of b) };
 
@@ -56,6 +56,6 @@ impl ByteRank for SlashFirst {
     ghost ranks = { λ b. rank b };
 
     fn rank(b: u8) -> u16 {
-        if b == b'/' { 0 } else { b as u16 + 1 }
+        if b == b'/' { 0 } else { u16::from(b) + 1 }
     }
 }

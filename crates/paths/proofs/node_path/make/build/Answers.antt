@@ -6,7 +6,7 @@ use Rattle.paths.proofs.node_path.make.build.Goals as goal
 
 pub invariant_of-result : goal.invariant_of-result
 invariant_of-result c =
-    let e = c.in-Some.ensures in
+    let e = rw c.in_ok-text.ensures.ok_part at c.of.ensures in
     let l : length c.args.front.now + length c.args.middle.now + length c.args.back.now ≤ 255 =
-    omega (arith, three_long c.args.front.now c.args.middle.now c.args.back.now, ap length e, length-take c.in-Some.text.len c.in-Some.text.bytes, c.in-Some.text.few) in
+    omega (arith, three_long c.args.front.now c.args.middle.now c.args.back.now, ap length e, length-take c.in_ok-text.text.len c.in_ok-text.text.bytes, c.in_ok-text.text.few) in
     record { valid = ap is_path_text e ∙ c.requires.0 l; counted = c.requires.1 ∙ sym (ap (λ (u : Bytes). length (names_in u)) e) }
