@@ -10,6 +10,7 @@ use paths::Inline;
 
 // The most bytes of a key, and of a prefix, which may end with a `/`.
 pub const MAX_KEY: usize = 400;
+
 pub const MAX_PREFIX: usize = 401;
 
 // Kept: two types of one field, whose functions are shared; one type would need a marker and a trait for each form, which is longer than both.

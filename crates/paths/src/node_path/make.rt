@@ -90,6 +90,7 @@ pub(crate) fn build(
 }
 
 // How many names stand in a text with `/` between them, or none if one of them is unlawful.
+// Kept: a `for` that returns at an unlawful name; with `try_fold` the proof did not close that the count and one fit at each call of the closure.
 fn count_names(text: &[u8]) -> Option<usize>
     ensures { result ≡ (if are_names (split text.now) then Some (length (split text.now)) else None) }
 {

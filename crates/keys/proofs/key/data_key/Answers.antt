@@ -1,4 +1,4 @@
-use Rattle.std.proofs.Common.{rules, ◌∙◌, ◌≡◌, ◌<◌, ℕ, length, take, Option, None, MatchOption, false, Bool, cond, ◌++◌, Ok, Err, sym, ap}
+use Rattle.std.proofs.Common.{rules, ◌∙◌, ◌≡◌, ◌<◌, length, take, Option, None, MatchOption, false, Bool, cond, ◌++◌, Ok, Err, sym, ap}
 use Rattle.text.specs.Bytes.{Bytes}
 use Rattle.keys.specs.declared.fault.StoreFault.TheVariants.{Malformed}
 use Rattle.paths.specs.declared.inline.Inline.{Inline}

@@ -1,4 +1,4 @@
-use Rattle.std.proofs.Common.{arith, ℕ, Bool, ◌&&◌, eqb, get_or, drop, sym, ap, ◌∙◌}
+use Rattle.std.proofs.Common.{arith, ℕ, Bool, drop, sym, ap, ◌∙◌}
 use borrow.Author.Tests.{eq-eqb, eqb-true}
 use Rattle.std.proofs.lemmas.Bool.{both_ways}
 use Rattle.text.specs.Bytes.{Bytes}
