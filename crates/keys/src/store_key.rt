@@ -8,9 +8,10 @@ mod prefix;
 pub use make::{is_key, is_prefix};
 use paths::Inline;
 
-// The most bytes of a key, and of a prefix, which may end with a `/`.
+// The most bytes of a key.
 pub const MAX_KEY: usize = 400;
 
+// The most bytes of a prefix: those of a key, and a `/`.
 pub const MAX_PREFIX: usize = 401;
 
 // Kept: two types of one field, whose functions are shared; one type would need a marker and a trait for each form, which is longer than both.
