@@ -1,6 +1,6 @@
 -- Rows one by one, and one of them changed.
 -- Assumes nothing.
-use Rattle.std.proofs.Common.{◌≡◌, ℕ, zero, suc, ◌<◌, Bool, true, false, cond, ltb, List, [], ◌∷◌, length, get_or, set, Ok, Err, Result, sym, refl, ap, ◌∙◌, arith}
+use Rattle.std.proofs.Common.{◌≡◌, ℕ, zero, suc, ◌<◌, Bool, true, false, cond, ltb, List, [], ◌∷◌, length, get_or, set, Ok, Err, Result, MatchResult, IsErrAnd, sym, refl, ap, ◌∙◌, arith}
 use Rattle.text.specs.Bytes.{Bytes}
 use Rattle.keys.specs.declared.fault.StoreFault.{StoreFault}
 use Rattle.keys.specs.declared.fault.StoreFault.TheVariants.{Malformed, Row as NoRow}
@@ -30,6 +30,29 @@ none_of : (t : Bool) (p : Bytes) (r : Result StorePrefix StoreFault) → ((k : S
 none_of t p (Ok k) n e = absurd (n k refl)
 none_of true p (Err f) n e = absurd (cc)
 none_of false p (Err f) n e = refl
+
+-- a prefix whose refusal is told as another
+abbrev result_ok : StorePrefix → Result StorePrefix StoreFault
+result_ok k = Ok k
+
+abbrev result_err : StoreFault → Result StorePrefix StoreFault
+result_err f = Err f
+
+pub passed_on : (r : Result StorePrefix StoreFault) (k : StorePrefix) (x : Result Bytes StoreFault) → MatchResult r (λ j. result_ok k ≡ result_ok j) (λ e. ⊥) → prefix_in r ≡ x → prefix_in (Ok k) ≡ x
+passed_on (Ok j) k x m e = ap prefix_in m ∙ e
+passed_on (Err f) k x m e = absurd m
+
+pub not_ok : (r : Result StorePrefix StoreFault) (f : StoreFault) (Q : StoreFault → Type 0) → MatchResult r (λ j. result_err f ≡ result_ok j) Q → (k : StorePrefix) → r ≡ Ok k → ⊥
+not_ok (Ok j) f Q m k e = absurd (cc)
+not_ok (Err d) f Q m k e = absurd (cc)
+
+pub told_by : (r : Result StorePrefix StoreFault) (f : StoreFault) (Q : StoreFault → Type 0) (G : Type 0) → MatchResult r (λ j. result_err f ≡ result_ok j) Q → ((e : StoreFault) → Q e → G) → G
+told_by (Ok j) f Q G m h = absurd (cc)
+told_by (Err d) f Q G m h = h d m
+
+pub row_refused : (r : Result Unit StoreFault) (f : StoreFault) → IsErrAnd r (λ e. e ≡ f) → f ≡ NoRow → r ≡ Err NoRow
+row_refused (Ok u) f m e = absurd m
+row_refused (Err d) f m e = ap (λ (x : StoreFault). Err x) (m ∙ e)
 
 pub raises : (rows : List Row) (i : ℕ) (p : Bytes) (k : StorePrefix) → ltb i 16 ≡ true → prefix_in (Ok k) ≡ prefix_or_fault p → (Ok tt ≡ answered (raised (stakes rows) i p)) × (stakes (set rows i (record { raised = true; prefix = k })) ≡ rows_after (raised (stakes rows) i p) (stakes rows))
 raises rows i p k l e =

@@ -37,9 +37,7 @@ impl Rows {
         if row >= self.rows.len() {
             return Err(StoreFault::Row);
         }
-        let Ok(prefix) = StorePrefix::new(prefix) else {
-            return Err(StoreFault::Row);
-        };
+        let prefix = StorePrefix::new(prefix).map_err(|_| StoreFault::Row)?;
         self.rows[row] = Row {
             raised: true,
             prefix,

@@ -4,7 +4,7 @@ ghost use Rattle.std.specs.Prelude.{◌≡◌, length};
 use keys::StorePrefix;
 
 // A prefix, and whether it is raised.
-// Kept: a lowered row has its prefix still, so the flag and the prefix are no `Option`.
+// Kept: lower promises that a row's prefix stays, so the flag and the prefix are no Option.
 #[derive(Clone, Copy)]
 pub struct Row {
     pub(crate) raised: bool,

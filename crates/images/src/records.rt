@@ -1,7 +1,7 @@
 // The records of an image, one by one.
 ghost use Rattle.std.specs.Prelude.{◌≡◌, false, true, ◌+◌, ◌<◌, ◌≤◌, length, MatchOption, nat_le};
 ghost use Rattle.images.specs.Layout.{key_in, value_in};
-ghost use Rattle.images.specs.Tests.{ends_at, pair_at, good_at, Placed, Counted};
+ghost use Rattle.images.specs.Tests.{pair_at, good_at, Placed, Counted};
 
 use crate::numbers::{long, short};
 use keys::is_key;
@@ -61,14 +61,6 @@ impl<'a> Record<'a> {
     }
 }
 
-// Whether the records end at a place.
-#[tactic(auto, unfolding(crate::specs::Tests::ends_at))]
-fn ends(image: &[u8], at: usize) -> bool
-    ensures { result ≡ ends_at image.now at }
-{
-    at < image.len() && image[at] == 0
-}
-
 // Whether so many bytes from a place on lie in the image.
 fn inside(image: &[u8], place: usize, n: usize) -> bool
     requires { (place < 4294967296) × (n < 4294967296) }
@@ -89,9 +81,7 @@ fn has_pair(image: &[u8], at: usize) -> bool
     let key_len = short(image, at + 5);
     let value_place = long(image, at + 7);
     let value_len = long(image, at + 11);
-    let key = inside(image, key_place, key_len);
-    let value = inside(image, value_place, value_len);
-    key && value
+    inside(image, key_place, key_len) && inside(image, value_place, value_len)
 }
 
 // The record at a place, if its key is one and comes after the last one.
@@ -115,14 +105,12 @@ pub(crate) fn tally(image: &[u8]) -> Option<usize>
     if image.len() > LONGEST {
         return None;
     }
-    let mut n = 0;
-    let mut at = 0;
     let mut last: &[u8] = b"";
-    // Kept: a record tells by its kind that the records end, so no range says where the loop does.
-    while !ends(image, at) {
-        last = next(last, image, at)?.key();
-        n += 1;
-        at += RECORD;
+    for (n, record) in image.chunks(RECORD).enumerate() {
+        if record[0] == 0 {
+            return Some(n);
+        }
+        last = next(last, image, RECORD * n)?.key();
     }
-    Some(n)
+    None
 }

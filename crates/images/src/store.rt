@@ -33,6 +33,7 @@ impl PairRun for Image<'_> {
     }
 }
 
+// Kept: as for Shelf; one impl for every run of pairs would have to stand in stores, which lies below runs.
 impl ReadStore for Image<'_> {
     ghost pairs = { λ s. listed s.bytes.now 0 (unwrap_or s.count 0) };
 

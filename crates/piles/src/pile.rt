@@ -94,6 +94,7 @@ impl Layers<'_, NodePath> {
 }
 
 // Through the mount and the outer fence.
+// Kept: tried in `work`, and its proof did not close: that the store left when the mount and the fence are gone is tied to the one before.
 fn in_upper<S: WriteStore, W: Work>(
     store: &mut S,
     front: &StorePrefix,

@@ -23,7 +23,7 @@ pub trait Work {
 }
 
 // Through a fence.
-// Kept: a function for each layer, since a layer's type depends on its store's, and a type of a trait takes no parameter.
+// Kept: a function for each layer, since a layer's type depends on its store's, and an associated type takes no parameter.
 pub fn in_fence<S: WriteStore, W: Work>(store: &mut S, table: &Rows, worker: &mut W) -> W::Answer
     ensures ties { S.WriteStore.ties store.old store.new }
     ensures does { W.Work.does worker.old (guard table.now.rows (meaning_of S.WriteStore store.old)) (guard table.now.rows (meaning_of S.WriteStore store.new)) worker.new result }

@@ -15,7 +15,7 @@ pub(crate) fn slot_at<'t>(rows: &'t Table<Slot>, i: usize) -> &'t Slot
 }
 
 // Sets the places of the slots from an index on, the first of them to `place`.
-pub(crate) fn lay(rows: &mut Table<Slot>, from: usize, place: usize)
+pub(crate) fn lay(rows: &mut Table<Slot>, from: usize, mut place: usize)
     requires start { from ≤ rows.old.len }
     requires short { place + total (drop from (take rows.old.len rows.old.slots.now)) < 2 ^ 64 }
     ensures len { rows.new.len ≡ rows.old.len }
@@ -23,7 +23,6 @@ pub(crate) fn lay(rows: &mut Table<Slot>, from: usize, place: usize)
     ensures same { rows.new.slots.ghost_name ≡ rows.old.slots.ghost_name }
     ensures rows { take rows.new.len rows.new.slots.now ≡ take from (take rows.old.len rows.old.slots.now) ++ laid place (drop from (take rows.old.len rows.old.slots.now)) }
 {
-    let mut place = place;
     for i in from..rows.len() {
         let size = slot_at(rows, i).span.size;
         rows.set_rest(i, Span { place, size });

@@ -1,7 +1,10 @@
 // A slot of a shelf: a key, and where its value lies.
+ghost use Rattle.std.specs.Prelude.{◌≡◌};
+
 mod order;
 
-use keys::StoreKey;
+use keys::{MetadataFile, StoreKey, meta_key};
+use paths::NodePath;
 
 #[derive(Clone, Copy)]
 pub struct Slot {
@@ -14,4 +17,16 @@ pub struct Slot {
 pub struct Span {
     pub(crate) place: usize,
     pub(crate) size: usize,
+}
+
+impl Slot {
+    // A slot to fill an array of slots with: what it holds is no matter.
+    pub fn empty() -> Slot
+        ensures { (result.span.place ≡ 0) × (result.span.size ≡ 0) }
+    {
+        Slot {
+            key: meta_key(&NodePath::root(), MetadataFile::ZarrJson),
+            span: Span { place: 0, size: 0 },
+        }
+    }
 }

@@ -15,11 +15,9 @@ use Rattle.stores.proofs.Mounts.{strip_join}
 use Rattle.stores.proofs.Listings.{Short, least_short, key_short}
 
 -- the names so far, the last of which is kept
-pub record Halfway (xs : List Bytes) (old buf kept : Bytes) (len count : ℕ) : Type 0 where
+pub record Halfway (xs : List Bytes) (old buf last : Bytes) (count : ℕ) : Type 0 where
   pub names : List Bytes
-  pub steps : Steps xs [] names (take len kept)
-  pub few : len ≤ 400
-  pub long : length kept ≡ 400
+  pub steps : Steps xs [] names last
   pub number : count ≡ min (length names) (2 ^ 64 - 1)
   pub buffer : buf ≡ written names old
   pub same : length buf ≡ length old
@@ -121,29 +119,21 @@ found_fault (Ok (Some t)) e buf h = absurd (cc)
 
 -- ---- the count
 
--- the bytes kept begin with the name
-pub kept_text : (new part post t buf : Bytes) (n : ℕ) → part ≡ take n new → new ≡ t ++ drop (length t) buf → length t ≡ n → take n (part ++ post) ≡ t
-kept_text new part post t buf n ep ew el =
-    let et : part ≡ t = ep ∙ ap (take n) ew ∙ take_at t (drop (length t) buf) n el in
-    take_at part post n (ap length et ∙ el) ∙ et
+-- the bytes kept are the name
+pub kept_name : (new t buf : Bytes) (n : ℕ) → new ≡ t ++ drop (length t) buf → length t ≡ n → take n new ≡ t
+kept_name new t buf n ew el = ap (take n) ew ∙ take_at t (drop (length t) buf) n el
 
-pub goes_on : (xs : List Bytes) (old buf kept new part post : Bytes) (len count n more : ℕ) → Halfway xs old buf kept len count → Named xs (take len kept) buf new n → part ≡ take n new → post ≡ drop n kept → more ≡ min (count + 1) (2 ^ 64 - 1) → Halfway xs old new (part ++ post) n more
-goes_on xs old buf kept new part post len count n more h a ep eq em =
+pub goes_on : (xs : List Bytes) (old buf last new next : Bytes) (count n more : ℕ) → Halfway xs old buf last count → Named xs last buf new n → next ≡ take n new → more ≡ min (count + 1) (2 ^ 64 - 1) → Halfway xs old new next more
+goes_on xs old buf last new next count n more h a ep em =
     let t = a.text in
     let ew : new ≡ t ++ drop (length t) buf = a.fills in
-    let et : part ≡ t = ep ∙ ap (take n) ew ∙ take_at t (drop (length t) buf) n a.size in
-    let ek : take n (part ++ post) ≡ t = kept_text new part post t buf n ep ew a.size in
-    let lp : length part ≡ n = ap length et ∙ a.size in
-    let lq : length post ≡ 400 - n = ap length eq ∙ length-drop n kept ∙ ap (λ (l : ℕ). l - n) h.long in
-    let lk : length (part ++ post) ≡ length part + length post = length-append part post in
+    let et : next ≡ t = ep ∙ kept_name new t buf n ew a.size in
     let ln : length new ≡ length t + length (drop (length t) buf) = ap length ew ∙ length-append t (drop (length t) buf) in
     let ld : length (drop (length t) buf) ≡ length buf - length t = length-drop (length t) buf in
     let lm : length (h.names ++ (t ∷ [])) ≡ length h.names + 1 = length-append h.names (t ∷ []) in
     record {
       names = h.names ++ (t ∷ []);
-      steps = rw ek (steps_more xs [] h.names (take len kept) t h.steps a.is);
-      few = a.short;
-      long = omega (arith, a.short);
+      steps = rw et (steps_more xs [] h.names last t h.steps a.is);
       number = rw lm (em ∙ next_min count (length h.names) h.number);
       buffer = ew ∙ ap (λ (b : Bytes). t ++ drop (length t) b) h.buffer ∙ sym (written_more h.names t old);
       same = omega (arith, a.fits, a.size, h.same);
@@ -152,23 +142,23 @@ goes_on xs old buf kept new part post len count n more h a ep eq em =
     next_min : (a b : ℕ) → a ≡ min b (2 ^ 64 - 1) → min (a + 1) (2 ^ 64 - 1) ≡ min (b + 1) (2 ^ 64 - 1)
     next_min a b e = rw e (omega arith)
 
-pub stops : (longest : ℕ) (ps : Pairs) (p old buf kept new : Bytes) (len count : ℕ) → Halfway (children p ps) old buf kept len count → NoneLeft longest ps p (take len kept) buf new → Counted longest ps p old new count
-stops longest ps p old buf kept new len count h a = record {
+pub stops : (longest : ℕ) (ps : Pairs) (p old buf last new : Bytes) (count : ℕ) → Halfway (children p ps) old buf last count → NoneLeft longest ps p last buf new → Counted longest ps p old new count
+stops longest ps p old buf last new count h a = record {
   names = h.names;
   well = a.well;
-  run = steps_end (children p ps) [] h.names (take len kept) h.steps a.is;
+  run = steps_end (children p ps) [] h.names last h.steps a.is;
   number = h.number;
   buffer = a.keeps ∙ h.buffer;
 }
 
-pub breaks : (longest : ℕ) (ps : Pairs) (p old buf kept new : Bytes) (len count : ℕ) (r : Result (Option ℕ) StoreFault) (e : StoreFault) → Halfway (children p ps) old buf kept len count → r ≡ Err e → r ≡ answer (child_after longest ps p (take len kept) (length buf)) → new ≡ filled (child_after longest ps p (take len kept) (length buf)) buf → Stopped longest ps p old new e
-breaks longest ps p old buf kept new len count r e h o a f =
-    let q = found_fault (child_after longest ps p (take len kept) (length buf)) e buf (sym o ∙ a) in
+pub breaks : (longest : ℕ) (ps : Pairs) (p old buf last new : Bytes) (count : ℕ) (r : Result (Option ℕ) StoreFault) (e : StoreFault) → Halfway (children p ps) old buf last count → r ≡ Err e → r ≡ answer (child_after longest ps p last (length buf)) → new ≡ filled (child_after longest ps p last (length buf)) buf → Stopped longest ps p old new e
+breaks longest ps p old buf last new count r e h o a f =
+    let q = found_fault (child_after longest ps p last (length buf)) e buf (sym o ∙ a) in
     record {
       names = h.names;
-      last = take len kept;
+      last = last;
       steps = h.steps;
-      refusal = ap (λ (n : ℕ). child_after longest ps p (take len kept) n) (sym h.same) ∙ q.0;
+      refusal = ap (λ (n : ℕ). child_after longest ps p last n) (sym h.same) ∙ q.0;
       buffer = f ∙ q.1 ∙ h.buffer;
     }
 

@@ -4,6 +4,7 @@ ghost use Rattle.stores.specs.Counts.{Tally};
 use crate::list::ListStore;
 use crate::read::ReadStore;
 use keys::StoreFault;
+use paths::Inline;
 
 // How many children there are, each written to the buffer in its turn; the largest number if there are more.
 pub fn count_children<S: ListStore>(
@@ -13,13 +14,10 @@ pub fn count_children<S: ListStore>(
 ) -> Result<usize, StoreFault>
     ensures { Tally (S.ReadStore.longest store.now) (S.ReadStore.pairs store.now) prefix.now name.old name.new result }
 {
-    // Kept: no heap in the engine, so the last name lies in a buffer of fixed size with its length beside.
-    let mut last = [0u8; 400];
-    let mut len = 0;
+    let mut last = Inline::<400>::of(b"", b"", b"").unwrap();
     let mut count: usize = 0;
-    while let Some(n) = store.next_child(prefix, &last[..len], name)? {
-        last[..n].copy_from_slice(&name[..n]);
-        len = n;
+    while let Some(n) = store.next_child(prefix, last.as_bytes(), name)? {
+        last = Inline::of(&name[..n], b"", b"").unwrap();
         count = count.saturating_add(1);
     }
     Ok(count)

@@ -8,7 +8,7 @@ use keys::StoreFault;
 use runs::{PairRun, get, next_child, next_key};
 use stores::{ListStore, ReadStore, WriteStore};
 
-// Kept: these traits lie in another crate than the shelf, so one impl for every run of pairs is not allowed.
+// Kept: as for Image; one impl for every run of pairs would have to stand in stores, which lies below runs.
 impl ReadStore for Shelf<'_> {
     ghost pairs = { λ s. pairs_in s };
 

@@ -23,10 +23,9 @@ impl Shelf<'_> {
                 Ok(())
             }
             Err(i) => {
-                if self.rows.len() >= self.rows.room() {
-                    return Err(StoreFault::NotTaken);
-                }
-                if value.len() > self.bytes.len() - self.used {
+                if self.rows.len() >= self.rows.room()
+                    || value.len() > self.bytes.len() - self.used
+                {
                     return Err(StoreFault::NotTaken);
                 }
                 self.add(i, key);

@@ -1,5 +1,5 @@
 // Slots in the order of their keys.
-ghost use Rattle.std.specs.Prelude.{◌≡◌, Some, refl};
+ghost use Rattle.std.specs.Prelude.{Some, refl};
 ghost use Rattle.std.specs.Cmp.{on_equiv, on_total, partial_equiv_from_equiv, partial_order_from_agreeing_total};
 ghost use Rattle.text.specs.Bytes.{same};
 ghost use Rattle.text.proofs.TotalOrders.{byte_order_total, same_equivalence, same_ties};
@@ -7,25 +7,11 @@ ghost use Rattle.shelves.specs.Slots.{slot, slot_text, slot_order};
 ghost use Rattle.shelves.specs.Ranks.{same_key};
 
 use super::{Slot, Span};
-use keys::{MetadataFile, meta_key};
-use paths::NodePath;
 use std::cmp::Ordering;
 use table::Record;
 use text::compare;
 
-impl Slot {
-    // A slot to fill an array of slots with: what it holds is no matter.
-    pub fn empty() -> Slot
-        ensures { (result.span.place ≡ 0) × (result.span.size ≡ 0) }
-    {
-        Slot {
-            key: meta_key(&NodePath::root(), MetadataFile::ZarrJson),
-            span: Span { place: 0, size: 0 },
-        }
-    }
-}
-
-// Kept: a slot goes by its key's bytes alone; to derive these, the key would need the same four.
+// Kept: where the value lies is not compared, so none of these four is derived.
 impl PartialEq for Slot {
     ghost eq = { λ a b. same (slot_text a) (slot_text b) };
 

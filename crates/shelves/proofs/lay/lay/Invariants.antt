@@ -8,4 +8,4 @@ invariant-loop-i l =
     let xs = take l.initial.rows.len l.initial.rows.slots.now in
     (l.rows.len ≡ l.initial.rows.len) × (length l.rows.slots.now ≡ length l.initial.rows.slots.now) × (l.rows.slots.ghost_name ≡ l.initial.rows.slots.ghost_name)
     × (l.place + total (drop l.i ys) < 2 ^ 64)
-    × (take l.i ys ++ laid l.place (drop l.i ys) ≡ take l.from xs ++ laid l.place-2 (drop l.from xs))
+    × (take l.i ys ++ laid l.place (drop l.i ys) ≡ take l.from xs ++ laid l.initial.place (drop l.from xs))

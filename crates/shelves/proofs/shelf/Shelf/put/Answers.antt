@@ -10,6 +10,7 @@ use Rattle.shelves.specs.Meant.{pairs_in}
 use Rattle.shelves.proofs.Changed.{first_of, inside}
 use Rattle.shelves.proofs.Sought.{inserted_again}
 use Rattle.shelves.proofs.Writing.{same_lent, lent_twice, set_bad, set_not, set_did, key_ok, key_bad, found_key, known_taken, known_not, new_taken, new_full, new_long}
+use Rattle.shelves.proofs.shelf.Shelf.put.Goals.{then-len-room-via-then-len-room, then-len-room-via-else-len-room+then-value-self-2}
 use Rattle.shelves.proofs.shelf.Shelf.put.Goals as goal
 
 pub returns-in_err-key : goal.returns-in_err-key
@@ -45,17 +46,14 @@ returns-then-len-room c =
     let k = c.args.key.now in
     let v = c.args.value.now in
     let w = key_ok (is_key k) (key_text c.in_ok-key.key) k c.in_ok-key.ensures in
-    let h : length s.rows.slots.now ≤ s.rows.len = omega (arith, c.len.ensures, c.room.ensures, c.if-len-room.true) in
-    record { lent = same_lent s; means = set_not s k v w.0 (new_full s c.in_ok-key.key k w.1 v c.in-Err.i c.in-Err.ensures h) }
-
-pub returns-then-value-self-2 : goal.returns-then-value-self-2
-returns-then-value-self-2 c =
-    let s = c.args.self.now in
-    let k = c.args.key.now in
-    let v = c.args.value.now in
-    let w = key_ok (is_key k) (key_text c.in_ok-key.key) k c.in_ok-key.ensures in
-    let h : length s.bytes.now < s.used + length v = omega (arith, s.short, c.if-value-self-2.true) in
-    record { lent = same_lent s; means = set_not s k v w.0 (new_long s c.in_ok-key.key k w.1 v c.in-Err.i c.in-Err.ensures h) }
+    elim c.then-len-room.branch [
+      | then-len-room-via-then-len-room z ↦
+          let h : length s.rows.slots.now ≤ s.rows.len = omega (arith, c.len.ensures, c.room.ensures, z.if-len-room.true) in
+          record { lent = same_lent s; means = set_not s k v w.0 (new_full s c.in_ok-key.key k w.1 v c.in-Err.i c.in-Err.ensures h) }
+      | then-len-room-via-else-len-room+then-value-self-2 z ↦
+          let h : length s.bytes.now < s.used + length v = omega (arith, s.short, z.if-value-self-2.true) in
+          record { lent = same_lent s; means = set_not s k v w.0 (new_long s c.in_ok-key.key k w.1 v c.in-Err.i c.in-Err.ensures h) }
+    ]
 
 pub returns-else-value-self : goal.returns-else-value-self
 returns-else-value-self c =
