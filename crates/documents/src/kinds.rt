@@ -57,9 +57,9 @@ pub(crate) fn char_of(b: u8) -> Option<Char>
 pub(crate) fn escape_of(b: u8) -> Option<Escape>
     ensures { result ≡ escape_of b }
 {
-    match b as char {
-        '"' | '\\' | '/' | 'b' | 'f' | 'n' | 'r' | 't' => Some(Escape::Simple),
-        'u' => Some(Escape::CodeUnit),
+    match b {
+        b'"' | b'\\' | b'/' | b'b' | b'f' | b'n' | b'r' | b't' => Some(Escape::Simple),
+        b'u' => Some(Escape::CodeUnit),
         _ => None,
     }
 }
