@@ -59,8 +59,8 @@ pub(crate) fn number(bytes: &[u8], from: Phase) -> Result<&[u8], Stop<'_>>
 const PAIR_TAIL: [Class; 8] = [
     Class::Hex,
     Class::Hex,
-    Class::In(b'\\', 0),
-    Class::In(b'u', 0),
+    Class::In(b'\\', b'\\'),
+    Class::In(b'u', b'u'),
     Class::IsD,
     Class::CtoF,
     Class::Hex,
