@@ -116,14 +116,12 @@ pub(crate) fn chars(bytes: &[u8]) -> Result<&[u8], Stop<'_>>
     ensures { MatchResult result (λ r. GotString bytes.now r.now) (λ stop. Refuses AnyString bytes.now stop.rest.now) }
 {
     let mut rest = bytes;
-    while let Some((b, tail)) = rest.split_first() {
-        match char_of(*b) {
-            Some(Char::EndQuote) => return Ok(tail),
-            Some(Char::Plain) => rest = tail,
-            Some(Char::Back) => rest = escape(tail)?,
-            Some(Char::Long(lead)) => rest = follow(tail, behind(lead))?,
-            None => return Err(Stop { rest }),
-        }
+    loop {
+        rest = match first(rest, char_of)? {
+            (Char::EndQuote, tail) => return Ok(tail),
+            (Char::Plain, tail) => tail,
+            (Char::Back, tail) => escape(tail)?,
+            (Char::Long(lead), tail) => follow(tail, behind(lead))?,
+        };
     }
-    Err(Stop { rest })
 }
