@@ -27,7 +27,7 @@ fn is_dropped(place: Place, b: u8) -> bool
 }
 
 // The bytes that stay, from a place in a text on, one by one.
-#[derive(Clone, Copy)]
+#[derive(Drop)]
 pub(crate) struct Squeezed<'a> {
     place: Place,
     rest: &'a [u8],

@@ -1,6 +1,6 @@
 -- Strings and their escapes.
 -- Assumes nothing.
-use Rattle.std.proofs.Common.{◌≡◌, ℕ, List, [], ◌∷◌, ◌++◌, length, Some, None, sym, refl, ap, ◌∙◌, subst, arith}
+use Rattle.std.proofs.Common.{◌≡◌, ℕ, List, [], ◌∷◌, ◌++◌, length, inl, inr, Some, None, sym, refl, ap, ◌∙◌, subst, arith}
 use Rattle.std.proofs.lemmas.Bool.Decides.{nat_tests}
 use Rattle.grammar.specs.Grammar.{Chars, c_none, c_plain, c_long, c_escape, c_unit, c_unit_d, c_pair, Seq}
 use Rattle.grammar.specs.Machine.{Stack, Role, go, chars, esc, uni, uni_d, seq_go, step_chars, step_esc, step_uni, step_uni_d, run}
@@ -13,7 +13,7 @@ use Rattle.grammar.specs.declared.kinds.Escape.TheVariants.{Simple, CodeUnit}
 use Rattle.grammar.specs.declared.kinds.FirstHex.TheVariants.{FirstD, OtherHex}
 use Rattle.grammar.specs.declared.kinds.SecondHex.TheVariants.{Whole, High}
 use Rattle.grammar.proofs.Complete.{c_chars}
-use Rattle.documents.specs.Reading.{Part, Refuses, AnyString, AnyEscape, AnyUnit, AnyUnitD, Each, Differs, AfterBack, AfterU, AfterD}
+use Rattle.documents.specs.Reading.{Part, BeginsNot, Refuses, AnyString, AnyEscape, AnyUnit, AnyUnitD, Each, Differs, AfterBack, AfterU, AfterD}
 use Rattle.documents.proofs.Parts.{part_none, part_one, part_more, part_then, part_front, go_at, bad_at, end_at}
 use Rattle.documents.proofs.Words.{seq_part, seq_stops}
 
@@ -83,13 +83,17 @@ module _ (s r : List ℕ) (p : Part Chars s r) where
   str_more : (q : List ℕ) → Part MoreChars r q → Part Chars s q
   str_more q m = part_then Chars MoreChars Chars s r q (λ t u x y. y t x) p m
 
-  pub str_end : length r ≡ 0 → Refuses AnyString s r
+  str_end : length r ≡ 0 → Refuses AnyString s r
   str_end h d g k = str_at p d g k ∙ end_at (chars d g p.text k) r h refl
 
-  module _ (u : List ℕ) (b : ℕ) (h : r ≡ b ∷ u) where
-    pub str_bad : char_of b ≡ None → Refuses AnyString s r
-    str_bad e d g k = str_at p d g k ∙ bad_at (chars d g p.text k) r u b h (ap (λ y. step_chars y b d g p.text k) e)
+  str_bad : (u : List ℕ) (b : ℕ) → r ≡ b ∷ u → char_of b ≡ None → Refuses AnyString s r
+  str_bad u b h e d g k = str_at p d g k ∙ bad_at (chars d g p.text k) r u b h (ap (λ y. step_chars y b d g p.text k) e)
 
+  pub str_stop : (q : List ℕ) → BeginsNot (λ b. None ≡ char_of b) r q → Refuses AnyString s q
+  str_stop q (e, inl h) = rw e (str_end (ap length h))
+  str_stop q (e, inr (b, u, h, n)) = rw e (str_bad u b h (sym n))
+
+  module _ (u : List ℕ) (b : ℕ) (h : r ≡ b ∷ u) where
     pub str_plain : char_of b ≡ Some Plain → Part Chars s u
     str_plain e = part_more Chars s r u b (λ t x. c_plain b x e) p h
 

@@ -1,6 +1,6 @@
 -- What the readers answer of bytes: a part at their front that is of a given form, or the bytes before which the automaton stops, whatever surrounds the part; and what is left.
 -- Assumes nothing.
-use Rattle.std.specs.Prelude.{◌≡◌, ℕ, suc, Bool, true, false, List, [], ◌∷◌, ◌++◌, Some}
+use Rattle.std.specs.Prelude.{◌≡◌, ℕ, suc, Bool, true, false, ◌⊎◌, List, [], ◌∷◌, ◌++◌, Some}
 use Rattle.grammar.specs.Ast.{Json, Members, num, mnone, malso}
 use Rattle.grammar.specs.Grammar.{Ws, Chars, Named, Shows, ShowsMembers}
 use Rattle.grammar.specs.Machine.{Stack, in_obj, Role, St, val, first, members, member, aft, nums, chars, esc, uni, uni_d, lit, seq_go, run, stopped}
@@ -19,6 +19,14 @@ pub record Part (P : List ℕ → Type 0) (s r : List ℕ) : Type 0 where
 -- Started at s in any of the given states, the automaton stops before r.
 abbrev pub Refuses : ((St → Type 0) → Type 0) → List ℕ → List ℕ → Type 0
 Refuses any s r = any (λ m. run m s ≡ stopped r)
+
+-- The bytes s are one with the property P, and then r.
+abbrev pub Begins : (ℕ → Type 0) → List ℕ → List ℕ → Type 0
+Begins P s r = (b : ℕ) × (s ≡ b ∷ r) × P b
+
+-- The bytes s, of which all are left, are none, or the first of them has the property P.
+abbrev pub BeginsNot : (ℕ → Type 0) → List ℕ → List ℕ → Type 0
+BeginsNot P s r = (r ≡ s) × ((s ≡ []) ⊎ ((b : ℕ) × (u : List ℕ) × (s ≡ b ∷ u) × P b))
 
 -- whether white space comes
 abbrev pub blank_next : List ℕ → Bool

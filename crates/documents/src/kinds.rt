@@ -6,7 +6,7 @@ ghost use Rattle.grammar.specs.Terminals.{is_blank, start_of, char_of, behind, e
 use grammar::{Char, Class, Escape, FirstHex, Lead, Phase, SecondHex, Start};
 
 // A byte behind the first of a longer character, where the first leaves it free.
-const TAIL: Class = Class::In(0x80, 63);
+const TAIL: Class = Class::In(0x80, 0xBF);
 
 // Whether it is white space.
 pub fn is_blank(b: u8) -> bool
@@ -57,9 +57,9 @@ pub(crate) fn char_of(b: u8) -> Option<Char>
 pub(crate) fn escape_of(b: u8) -> Option<Escape>
     ensures { result ≡ escape_of b }
 {
-    match b as char {
-        '"' | '\\' | '/' | 'b' | 'f' | 'n' | 'r' | 't' => Some(Escape::Simple),
-        'u' => Some(Escape::CodeUnit),
+    match b {
+        b'"' | b'\\' | b'/' | b'b' | b'f' | b'n' | b'r' | b't' => Some(Escape::Simple),
+        b'u' => Some(Escape::CodeUnit),
         _ => None,
     }
 }
@@ -92,12 +92,12 @@ pub(crate) fn behind(lead: Lead) -> &'static [Class]
 {
     match lead {
         Lead::Two => &[TAIL],
-        Lead::ThreeE0 => &[Class::In(0xA0, 31), TAIL],
+        Lead::ThreeE0 => &[Class::In(0xA0, 0xBF), TAIL],
         Lead::Three => &[TAIL, TAIL],
-        Lead::ThreeED => &[Class::In(0x80, 31), TAIL],
-        Lead::FourF0 => &[Class::In(0x90, 47), TAIL, TAIL],
+        Lead::ThreeED => &[Class::In(0x80, 0x9F), TAIL],
+        Lead::FourF0 => &[Class::In(0x90, 0xBF), TAIL, TAIL],
         Lead::Four => &[TAIL, TAIL, TAIL],
-        Lead::FourF4 => &[Class::In(0x80, 15), TAIL, TAIL],
+        Lead::FourF4 => &[Class::In(0x80, 0x8F), TAIL, TAIL],
     }
 }
 
@@ -122,7 +122,7 @@ impl Expected for Class {
 
     fn is_met_by(self, b: u8) -> bool {
         match self {
-            Class::In(low, more) => low <= b && b - low <= more,
+            Class::In(low, high) => (low..=high).contains(&b),
             Class::Hex => b.is_ascii_hexdigit(),
             Class::IsD => b == b'D' || b == b'd',
             Class::CtoF => matches!(b, b'C'..=b'F' | b'c'..=b'f'),

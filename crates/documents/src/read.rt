@@ -7,7 +7,7 @@ ghost use Rattle.documents.specs.Reading.{Refuses, AnyValue, AnyArray, AnyObject
 use crate::bare::Bare;
 use crate::fault::{DocumentFault, Stop};
 use crate::kinds::start_of;
-use crate::scan::{blanks, chars, follow, number};
+use crate::scan::{blanks, chars, first, follow, number};
 use grammar::{Phase, Start};
 
 // How deep arrays and objects may nest.
@@ -38,21 +38,17 @@ pub fn name<'a>(start: Bare<'a>) -> Result<Named<'a>, Stop<'a>>
 pub fn value<'a>(start: Bare<'a>, depth: u8) -> Result<&'a [u8], Stop<'a>>
     ensures { MatchResult result (λ r. GotValue depth start.entry.bytes.now r.now) (λ stop. Refuses (AnyValue depth) start.entry.bytes.now stop.rest.now) }
 {
-    let stop = Stop { rest: start.bytes };
-    let Some((b, tail)) = start.bytes.split_first() else {
-        return Err(stop);
-    };
-    match start_of(*b) {
-        Some(Start::Quote) => chars(tail),
-        Some(Start::Minus) => number(tail, Phase::AtMinus),
-        Some(Start::Zero) => number(tail, Phase::AtZero),
-        Some(Start::Positive) => number(tail, Phase::AtWhole),
-        Some(Start::OpenArray) if depth > 0 => array(tail, depth - 1),
-        Some(Start::OpenObject) if depth > 0 => object(tail, depth - 1),
-        Some(Start::LitT) => follow(tail, b"rue"),
-        Some(Start::LitF) => follow(tail, b"alse"),
-        Some(Start::LitN) => follow(tail, b"ull"),
-        Some(Start::OpenArray | Start::OpenObject | Start::Blank) | None => Err(stop),
+    match first(start.bytes, start_of)? {
+        (Start::Quote, tail) => chars(tail),
+        (Start::Minus, tail) => number(tail, Phase::AtMinus),
+        (Start::Zero, tail) => number(tail, Phase::AtZero),
+        (Start::Positive, tail) => number(tail, Phase::AtWhole),
+        (Start::OpenArray, tail) if depth > 0 => array(tail, depth - 1),
+        (Start::OpenObject, tail) if depth > 0 => object(tail, depth - 1),
+        (Start::LitT, tail) => follow(tail, b"rue"),
+        (Start::LitF, tail) => follow(tail, b"alse"),
+        (Start::LitN, tail) => follow(tail, b"ull"),
+        (Start::OpenArray | Start::OpenObject | Start::Blank, _) => Err(Stop { rest: start.bytes }),
     }
 }
 
@@ -75,7 +71,7 @@ fn array(bytes: &[u8], depth: u8) -> Result<&[u8], Stop<'_>>
 }
 
 // From behind an object's opening brace to behind its closing one.
-// Kept: beside `array`, since one loop for both would take the closing byte and a closure for the element, and be no shorter.
+// Kept: beside `array`, since one contract for both would need a case for each, and be longer than both.
 #[cycle(array_object_value)]
 fn object(bytes: &[u8], depth: u8) -> Result<&[u8], Stop<'_>>
     ensures { MatchResult result (λ r. GotObject depth bytes.now r.now) (λ stop. Refuses (AnyObject depth) bytes.now stop.rest.now) }

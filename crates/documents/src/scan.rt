@@ -1,7 +1,7 @@
 // Past white space, literals, numbers and strings. Each reader answers what is left behind its part, or the rest with which the bytes are no start of a text.
-ghost use Rattle.std.specs.Prelude.{◌≡◌, MatchResult};
+ghost use Rattle.std.specs.Prelude.{◌≡◌, Some, None, MatchResult};
 ghost use Rattle.grammar.specs.Grammar.{Ws};
-ghost use Rattle.documents.specs.Reading.{Part, Refuses, AnyNumber, AnyString, AnyEscape, AnyUnit, AnyUnitD, Each, Differs, AfterBack, AfterU, AfterD, GotString, GotNumber};
+ghost use Rattle.documents.specs.Reading.{Part, Begins, BeginsNot, Refuses, AnyNumber, AnyString, AnyEscape, AnyUnit, AnyUnitD, Each, Differs, AfterBack, AfterU, AfterD, GotString, GotNumber};
 
 use crate::bare::Bare;
 use crate::fault::Stop;
@@ -59,25 +59,35 @@ pub(crate) fn number(bytes: &[u8], from: Phase) -> Result<&[u8], Stop<'_>>
 const PAIR_TAIL: [Class; 8] = [
     Class::Hex,
     Class::Hex,
-    Class::In(b'\\', 0),
-    Class::In(b'u', 0),
+    Class::In(b'\\', b'\\'),
+    Class::In(b'u', b'u'),
     Class::IsD,
     Class::CtoF,
     Class::Hex,
     Class::Hex,
 ];
 
+// What kind the first byte is of, and the bytes behind it.
+pub(crate) fn first<'a, K, F: Fn(u8) -> Option<K>>(
+    bytes: &'a [u8],
+    kind_of: F,
+) -> Result<(K, &'a [u8]), Stop<'a>>
+    requires { F.IsAlwaysCallable kind_of }
+    ensures { MatchResult result (λ p. Begins (λ b. F.post kind_of b (Some p.0)) bytes.now p.1.now) (λ stop. BeginsNot (λ b. F.post kind_of b None) bytes.now stop.rest.now) }
+{
+    let stop = Stop { rest: bytes };
+    let (b, tail) = bytes.split_first().ok_or(stop)?;
+    let kind = kind_of(*b).ok_or(stop)?;
+    Ok((kind, tail))
+}
+
 // Past the rest of a code unit that begins with `D`, and of a pair of surrogates.
 fn unit_d(bytes: &[u8]) -> Result<&[u8], Stop<'_>>
     ensures { MatchResult result (λ r. Part AfterD bytes.now r.now) (λ stop. Refuses AnyUnitD bytes.now stop.rest.now) }
 {
-    let Some((b, tail)) = bytes.split_first() else {
-        return Err(Stop { rest: bytes });
-    };
-    match second_of(*b) {
-        Some(SecondHex::Whole) => follow(tail, &[Class::Hex, Class::Hex]),
-        Some(SecondHex::High) => follow(tail, &PAIR_TAIL),
-        None => Err(Stop { rest: bytes }),
+    match first(bytes, second_of)? {
+        (SecondHex::Whole, tail) => follow(tail, &[Class::Hex, Class::Hex]),
+        (SecondHex::High, tail) => follow(tail, &PAIR_TAIL),
     }
 }
 
@@ -85,13 +95,9 @@ fn unit_d(bytes: &[u8]) -> Result<&[u8], Stop<'_>>
 fn unit(bytes: &[u8]) -> Result<&[u8], Stop<'_>>
     ensures { MatchResult result (λ r. Part AfterU bytes.now r.now) (λ stop. Refuses AnyUnit bytes.now stop.rest.now) }
 {
-    let Some((b, tail)) = bytes.split_first() else {
-        return Err(Stop { rest: bytes });
-    };
-    match first_of(*b) {
-        Some(FirstHex::FirstD) => unit_d(tail),
-        Some(FirstHex::OtherHex) => follow(tail, &[Class::Hex, Class::Hex, Class::Hex]),
-        None => Err(Stop { rest: bytes }),
+    match first(bytes, first_of)? {
+        (FirstHex::FirstD, tail) => unit_d(tail),
+        (FirstHex::OtherHex, tail) => follow(tail, &[Class::Hex, Class::Hex, Class::Hex]),
     }
 }
 
@@ -99,13 +105,9 @@ fn unit(bytes: &[u8]) -> Result<&[u8], Stop<'_>>
 fn escape(bytes: &[u8]) -> Result<&[u8], Stop<'_>>
     ensures { MatchResult result (λ r. Part AfterBack bytes.now r.now) (λ stop. Refuses AnyEscape bytes.now stop.rest.now) }
 {
-    let Some((b, tail)) = bytes.split_first() else {
-        return Err(Stop { rest: bytes });
-    };
-    match escape_of(*b) {
-        Some(Escape::Simple) => Ok(tail),
-        Some(Escape::CodeUnit) => unit(tail),
-        None => Err(Stop { rest: bytes }),
+    match first(bytes, escape_of)? {
+        (Escape::Simple, tail) => Ok(tail),
+        (Escape::CodeUnit, tail) => unit(tail),
     }
 }
 
@@ -114,14 +116,12 @@ pub(crate) fn chars(bytes: &[u8]) -> Result<&[u8], Stop<'_>>
     ensures { MatchResult result (λ r. GotString bytes.now r.now) (λ stop. Refuses AnyString bytes.now stop.rest.now) }
 {
     let mut rest = bytes;
-    while let Some((b, tail)) = rest.split_first() {
-        match char_of(*b) {
-            Some(Char::EndQuote) => return Ok(tail),
-            Some(Char::Plain) => rest = tail,
-            Some(Char::Back) => rest = escape(tail)?,
-            Some(Char::Long(lead)) => rest = follow(tail, behind(lead))?,
-            None => return Err(Stop { rest }),
-        }
+    loop {
+        rest = match first(rest, char_of)? {
+            (Char::EndQuote, tail) => return Ok(tail),
+            (Char::Plain, tail) => tail,
+            (Char::Back, tail) => escape(tail)?,
+            (Char::Long(lead), tail) => follow(tail, behind(lead))?,
+        };
     }
-    Err(Stop { rest })
 }

@@ -93,7 +93,7 @@ read_end (at_chars o cs) = rw append-nil (can_end (at_chars o cs))
 read_end (at_esc o cs) = rw append-nil (can_end (at_esc o cs))
 read_end (at_uni o cs) = rw append-nil (can_end (at_uni o cs))
 read_end (at_uni_d b o cs h) = rw append-nil (can_end (at_uni_d b o cs h))
-read_end (at_seq {r = r} {a = a} o f) = rw append-nil (can_end (at_seq {r = r} {a = a} o f))
+read_end (at_seq {r = r} {a = a} o s f) = rw append-nil (can_end (at_seq {r = r} {a = a} o s f))
 read_end (at_lit a o sh) = rw append-nil (can_end (at_lit a o sh))
 
 read_on : (p : List ℕ) (b : ℕ) (t : List ℕ) (o : Out) → Read (p ++ (b ∷ [])) t o → Read p (b ∷ t) o

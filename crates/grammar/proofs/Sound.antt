@@ -3,14 +3,16 @@
 use Rattle.std.proofs.Common.{◌≡◌, ℕ, zero, suc, Bool, true, false, eqb, List, [], ◌∷◌, ◌++◌, sym, refl, subst, append_assoc, append-nil, arith, Some, None, Option}
 use Rattle.std.proofs.lemmas.Bool.Decides.{nat_tests}
 use Rattle.grammar.specs.Ast.{Json, Items, Members, none, also, mnone, malso}
-use Rattle.grammar.specs.Terminals.{is_blank, is_positive, within, start_of, punct_of, fits, char_of, behind, escape_of, first_of, second_of, pair_tail}
+use Rattle.grammar.specs.Terminals.{is_blank, is_positive, start_of, punct_of, fits, char_of, tail, behind, escape_of, first_of, second_of, pair_tail}
 use Rattle.grammar.specs.Numbers.{p_one, next, may_end, At, a_minus, a_zero, a_whole}
 use Rattle.grammar.specs.declared.kinds.Start.{Start}
 use Rattle.grammar.specs.declared.kinds.Start.TheVariants.{Blank, Quote, Minus, Zero, Positive, OpenArray, OpenObject, LitT, LitF, LitN}
 use Rattle.grammar.specs.declared.kinds.Punct.{Punct}
 use Rattle.grammar.specs.declared.kinds.Punct.TheVariants.{Space, One, Two}
 use Rattle.grammar.specs.declared.kinds.Class.{Class}
-use Rattle.grammar.specs.declared.kinds.Class.TheVariants.{In, Hex, IsD, CtoF}
+use Rattle.grammar.specs.declared.kinds.Class.TheVariants.{Hex}
+use Rattle.grammar.specs.declared.kinds.Lead.{Lead}
+use Rattle.grammar.specs.declared.kinds.Lead.TheVariants as lead
 use Rattle.grammar.specs.declared.kinds.Char.{Char}
 use Rattle.grammar.specs.declared.kinds.Char.TheVariants.{Plain, EndQuote, Back, Long}
 use Rattle.grammar.specs.declared.kinds.Escape.{Escape}
@@ -42,6 +44,10 @@ pub data OpenString : ℕ → Role → Stack → List ℕ → Type 0 where
   os_value : {d : ℕ} {k : Stack} {p : List ℕ} → Open d k p → OpenString d value k p
   os_name : {d : ℕ} {k : Stack} {ms : Members} {p w : List ℕ} → OpenName d ms k p → Ws w → OpenString d (name ms) k (p ++ w)
 
+-- some bytes are of the classes
+abbrev pub Filled : List Class → Type 0
+Filled cs = (v : List ℕ) × Seq cs v
+
 pub data Mean : St → List ℕ → Type 0 where
   at_val : {d : ℕ} {k : Stack} {p : List ℕ} → Open d k p → Mean (val d k) p
   at_first : {d : ℕ} {k : Stack} {p w : List ℕ} → Open (suc d) k p → Ws w → Mean (first d k) (p ++ (91 ∷ w))
@@ -54,7 +60,7 @@ pub data Mean : St → List ℕ → Type 0 where
   at_esc : {d : ℕ} {k : Stack} {g : Role} {p r : List ℕ} → OpenString d g k p → Chars r → Mean (esc d g r k) (p ++ (34 ∷ (r ++ (92 ∷ []))))
   at_uni : {d : ℕ} {k : Stack} {g : Role} {p r : List ℕ} → OpenString d g k p → Chars r → Mean (uni d g r k) (p ++ (34 ∷ (r ++ (92 ∷ 117 ∷ []))))
   at_uni_d : {d : ℕ} {k : Stack} {g : Role} {p r : List ℕ} (b : ℕ) → OpenString d g k p → Chars r → first_of b ≡ Some FirstD → Mean (uni_d d g r b k) (p ++ (34 ∷ (r ++ (92 ∷ 117 ∷ b ∷ []))))
-  at_seq : {d : ℕ} {k : Stack} {g : Role} {p r a : List ℕ} {c : Class} {cs : List Class} → OpenString d g k p → ((v : List ℕ) → Seq (c ∷ cs) v → Chars (r ++ (a ++ v))) → Mean (seq d g r a c cs k) (p ++ (34 ∷ (r ++ a)))
+  at_seq : {d : ℕ} {k : Stack} {g : Role} {p r a : List ℕ} {c : Class} {cs : List Class} → OpenString d g k p → Filled (c ∷ cs) → ((v : List ℕ) → Seq (c ∷ cs) v → Chars (r ++ (a ++ v))) → Mean (seq d g r a c cs k) (p ++ (34 ∷ (r ++ a)))
   at_lit : {d : ℕ} {k : Stack} {j : Json} {p l : List ℕ} {c : ℕ} (a : List ℕ) → Open d k p → Shows d j (a ++ (c ∷ l)) → Mean (lit d (c ∷ l) j k) (p ++ a)
 
 abbrev pub Good : Next → List ℕ → Type 0
@@ -242,15 +248,49 @@ k_end : {d : ℕ} {g : Role} {k : Stack} {p r : List ℕ} → OpenString d g k p
 k_end (os_value o) cs = mean_at (at_aft o (s_str cs) w_none) (simp (append_assoc, append-nil))
 k_end (os_name o ws) cs = mean_at (at_colon o (named ws cs w_none)) (simp append_assoc)
 
-k_seqs : {d : ℕ} {g : Role} {k : Stack} {p : List ℕ} (cs : List Class) (r a : List ℕ) → OpenString d g k p → ((v : List ℕ) → Seq cs v → Chars (r ++ (a ++ v))) → Mean (seq_go cs d g r a k) (p ++ (34 ∷ (r ++ a)))
-k_seqs [] r a o f = at_chars o (rw append-nil at (f [] q_none))
-k_seqs (c ∷ cs) r a o f = at_seq o f
+-- bytes of the classes that are to come
+fill : (b : ℕ) {c : Class} {cs : List Class} → fits c b ≡ true → Filled cs → Filled (c ∷ cs)
+fill b h s = (b ∷ s.0, q_more b h s.1)
+
+rest_filled : {c : Class} {cs : List Class} {v : List ℕ} → Seq (c ∷ cs) v → Filled cs
+rest_filled (q_more {v = v} b h q) = (v, q)
+
+no_bytes : Filled []
+no_bytes = ([], q_none)
+
+two_hex : Filled (Hex ∷ Hex ∷ [])
+two_hex = fill 48 refl (fill 48 refl no_bytes)
+
+three_hex : Filled (Hex ∷ Hex ∷ Hex ∷ [])
+three_hex = fill 48 refl two_hex
+
+pair_filled : Filled pair_tail
+pair_filled = fill 48 refl (fill 48 refl (fill 92 refl (fill 117 refl (fill 68 refl (fill 67 refl two_hex)))))
+
+one_tail : Filled (tail ∷ [])
+one_tail = fill 128 refl no_bytes
+
+two_tails : Filled (tail ∷ tail ∷ [])
+two_tails = fill 128 refl one_tail
+
+behind_filled : (l : Lead) → Filled (behind l)
+behind_filled lead.Two = one_tail
+behind_filled lead.ThreeE0 = fill 160 refl one_tail
+behind_filled lead.Three = two_tails
+behind_filled lead.ThreeED = fill 128 refl one_tail
+behind_filled lead.FourF0 = fill 144 refl two_tails
+behind_filled lead.Four = fill 128 refl two_tails
+behind_filled lead.FourF4 = fill 128 refl two_tails
+
+k_seqs : {d : ℕ} {g : Role} {k : Stack} {p : List ℕ} (cs : List Class) (r a : List ℕ) → OpenString d g k p → Filled cs → ((v : List ℕ) → Seq cs v → Chars (r ++ (a ++ v))) → Mean (seq_go cs d g r a k) (p ++ (34 ∷ (r ++ a)))
+k_seqs [] r a o s f = at_chars o (rw append-nil at (f [] q_none))
+k_seqs (c ∷ cs) r a o s f = at_seq o s f
 
 k_chars : {d : ℕ} {g : Role} {k : Stack} {q r : List ℕ} → OpenString d g k q → Chars r → (b : ℕ) (c : Option Char) → char_of b ≡ c → Good (step_chars c b d g r k) ((q ++ (34 ∷ r)) ++ (b ∷ []))
 k_chars o cs b (Some Plain) e = rw append_assoc (at_chars o (c_plain b cs e))
 k_chars o cs b (Some EndQuote) e = rw (char_end b e) (k_end o cs)
 k_chars o cs b (Some Back) e = rw (char_back b e, append_assoc) (at_esc o cs)
-k_chars {r = r} o cs b (Some (Long l)) e = rw append_assoc (k_seqs (behind l) r (b ∷ []) o (λ v q. c_long b l cs e q))
+k_chars {r = r} o cs b (Some (Long l)) e = rw append_assoc (k_seqs (behind l) r (b ∷ []) o (behind_filled l) (λ v q. c_long b l cs e q))
 k_chars o cs b None e = tt
 
 k_esc : {d : ℕ} {g : Role} {k : Stack} {q r : List ℕ} → OpenString d g k q → Chars r → (b : ℕ) (c : Option Escape) → escape_of b ≡ c → Good (step_esc c b d g r k) ((q ++ (34 ∷ (r ++ (92 ∷ [])))) ++ (b ∷ []))
@@ -260,18 +300,18 @@ k_esc o cs b None e = tt
 
 k_uni : {d : ℕ} {g : Role} {k : Stack} {q r : List ℕ} → OpenString d g k q → Chars r → (b : ℕ) (c : Option FirstHex) → first_of b ≡ c → Good (step_uni c b d g r k) ((q ++ (34 ∷ (r ++ (92 ∷ 117 ∷ [])))) ++ (b ∷ []))
 k_uni o cs b (Some FirstD) e = mean_at (at_uni_d b o cs e) (simp append_assoc)
-k_uni {r = r} o cs b (Some OtherHex) e = mean_at (k_seqs (Hex ∷ Hex ∷ Hex ∷ []) r (92 ∷ 117 ∷ b ∷ []) o (λ v q. c_unit b cs e q)) (simp append_assoc)
+k_uni {r = r} o cs b (Some OtherHex) e = mean_at (k_seqs (Hex ∷ Hex ∷ Hex ∷ []) r (92 ∷ 117 ∷ b ∷ []) o three_hex (λ v q. c_unit b cs e q)) (simp append_assoc)
 k_uni o cs b None e = tt
 
 k_uni_d : {d : ℕ} {g : Role} {k : Stack} {q r : List ℕ} (b : ℕ) → OpenString d g k q → Chars r → first_of b ≡ Some FirstD → (e : ℕ) (c : Option SecondHex) → second_of e ≡ c → Good (step_uni_d c e d g r b k) ((q ++ (34 ∷ (r ++ (92 ∷ 117 ∷ b ∷ [])))) ++ (e ∷ []))
-k_uni_d {r = r} b o cs h e (Some Whole) i = mean_at (k_seqs (Hex ∷ Hex ∷ []) r (92 ∷ 117 ∷ b ∷ e ∷ []) o (λ v q. c_unit_d b e cs h i q)) (simp append_assoc)
-k_uni_d {r = r} b o cs h e (Some High) i = mean_at (k_seqs pair_tail r (92 ∷ 117 ∷ b ∷ e ∷ []) o (λ v q. c_pair b e cs h i q)) (simp append_assoc)
+k_uni_d {r = r} b o cs h e (Some Whole) i = mean_at (k_seqs (Hex ∷ Hex ∷ []) r (92 ∷ 117 ∷ b ∷ e ∷ []) o two_hex (λ v q. c_unit_d b e cs h i q)) (simp append_assoc)
+k_uni_d {r = r} b o cs h e (Some High) i = mean_at (k_seqs pair_tail r (92 ∷ 117 ∷ b ∷ e ∷ []) o pair_filled (λ v q. c_pair b e cs h i q)) (simp append_assoc)
 k_uni_d b o cs h e None i = tt
 
-k_seq : {d : ℕ} {g : Role} {k : Stack} {q : List ℕ} (r a : List ℕ) (c : Class) (cs : List Class) → OpenString d g k q → ((v : List ℕ) → Seq (c ∷ cs) v → Chars (r ++ (a ++ v))) → (b : ℕ) (z : Bool) → fits c b ≡ z → Good (step_seq z b d g r a cs k) ((q ++ (34 ∷ (r ++ a))) ++ (b ∷ []))
-k_seq r a c cs o f b true e =
-    mean_at (k_seqs cs r (a ++ (b ∷ [])) o (λ v q. rw (append_assoc a (b ∷ []) v) (f (b ∷ v) (q_more b e q)))) (simp append_assoc)
-k_seq r a c cs o f b false e = tt
+k_seq : {d : ℕ} {g : Role} {k : Stack} {q : List ℕ} (r a : List ℕ) (c : Class) (cs : List Class) → OpenString d g k q → Filled (c ∷ cs) → ((v : List ℕ) → Seq (c ∷ cs) v → Chars (r ++ (a ++ v))) → (b : ℕ) (z : Bool) → fits c b ≡ z → Good (step_seq z b d g r a cs k) ((q ++ (34 ∷ (r ++ a))) ++ (b ∷ []))
+k_seq r a c cs o s f b true e =
+    mean_at (k_seqs cs r (a ++ (b ∷ [])) o (rest_filled s.1) (λ v q. rw (append_assoc a (b ∷ []) v) (f (b ∷ v) (q_more b e q)))) (simp append_assoc)
+k_seq r a c cs o s f b false e = tt
 
 k_lits : {d : ℕ} {k : Stack} {j : Json} {q : List ℕ} (c : ℕ) (l : List ℕ) (a : List ℕ) → Open d k q → Shows d j (a ++ (c ∷ l)) → Mean (lit_end d l j k) ((q ++ a) ++ (c ∷ []))
 k_lits c [] a o sh = mean_at (at_aft o sh w_none) (simp (append_assoc, append-nil))
@@ -293,7 +333,7 @@ keep (at_chars o cs) b = k_chars o cs b (char_of b) refl
 keep (at_esc o cs) b = k_esc o cs b (escape_of b) refl
 keep (at_uni o cs) b = k_uni o cs b (first_of b) refl
 keep (at_uni_d c o cs h) b = k_uni_d c o cs h b (second_of b) refl
-keep (at_seq {r = r} {a = a} {c = c} {cs = cs} o f) b = k_seq r a c cs o f b (fits c b) refl
+keep (at_seq {r = r} {a = a} {c = c} {cs = cs} o s f) b = k_seq r a c cs o s f b (fits c b) refl
 keep (at_lit {l = l} {c = c} a o sh) b = k_lit l c a o sh b (eqb b c) refl
 
 -- each state can be completed
@@ -326,26 +366,6 @@ shut_string : {d : ℕ} {g : Role} {k : Stack} {p : List ℕ} → OpenString d g
 shut_string (os_value o) cs = viable_less _ (34 ∷ []) (viable_at (shut o (s_str cs) w_none) (simp (append_assoc, append-nil)))
 shut_string (os_name o ws) cs = viable_less _ (34 ∷ []) (viable_at (shut_colon o (named ws cs w_none)) (simp append_assoc))
 
-sample : Class → ℕ
-sample (In lo n) = lo
-sample Hex = 48
-sample IsD = 68
-sample CtoF = 67
-
-sample_in : (lo n : ℕ) → within lo n lo ≡ true
-sample_in lo n = grind (arith, nat_tests)
-
-sample_fits : (c : Class) → fits c (sample c) ≡ true
-unfolding sample
-sample_fits (In lo n) = sample_in lo n
-sample_fits Hex = refl
-sample_fits IsD = refl
-sample_fits CtoF = refl
-
-samples : (cs : List Class) → (v : List ℕ) × Seq cs v
-samples [] = ([], q_none)
-samples (c ∷ cs) = let s = samples cs in (sample c ∷ s.0, q_more (sample c) (sample_fits c) s.1)
-
 pub can_end : {s : St} {p : List ℕ} → Mean s p → Viable p
 can_end (at_val {p = p} o) = viable_less p (110 ∷ 117 ∷ 108 ∷ 108 ∷ []) (shut o s_null w_none)
 can_end (at_first o ws) = viable_less _ (93 ∷ []) (viable_at (shut o (s_arr0 ws) w_none) (simp (append_assoc, append-nil)))
@@ -357,12 +377,10 @@ can_end (at_nums o a) = let n = can_go a in viable_less _ n.0 (viable_at (shut o
 can_end (at_chars o cs) = shut_string o cs
 can_end (at_esc o cs) = viable_less _ (34 ∷ []) (viable_at (shut_string o (c_escape 34 cs refl)) (simp append_assoc))
 can_end (at_uni o cs) =
-    let s = samples (Hex ∷ Hex ∷ Hex ∷ []) in
+    let s = three_hex in
     viable_less _ (48 ∷ s.0) (viable_at (shut_string o (c_unit 48 cs refl s.1)) (simp append_assoc))
 can_end (at_uni_d b o cs h) =
-    let s = samples (Hex ∷ Hex ∷ []) in
+    let s = two_hex in
     viable_less _ (48 ∷ s.0) (viable_at (shut_string o (c_unit_d b 48 cs h refl s.1)) (simp append_assoc))
-can_end (at_seq {c = c} {cs = cs} o f) =
-    let s = samples (c ∷ cs) in
-    viable_less _ s.0 (viable_at (shut_string o (f s.0 s.1)) (simp append_assoc))
+can_end (at_seq o s f) = viable_less _ s.0 (viable_at (shut_string o (f s.0 s.1)) (simp append_assoc))
 can_end (at_lit {l = l} {c = c} a o sh) = viable_less _ (c ∷ l) (viable_at (shut o sh w_none) (simp (append_assoc, append-nil)))

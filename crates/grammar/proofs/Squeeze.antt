@@ -3,7 +3,7 @@
 use Rattle.std.proofs.Common.{◌≡◌, ℕ, ◌≤◌, true, false, cond, eqb, List, [], ◌∷◌, ◌++◌, sym, refl, ap, ◌∙◌, subst, append_assoc, append-nil, arith, Some}
 use Rattle.std.proofs.lemmas.Bool.Decides.{nat_tests}
 use Rattle.grammar.specs.Ast.{Json, Items, Members, also, mnone, malso}
-use Rattle.grammar.specs.Terminals.{within, is_blank, is_digit, is_positive, is_hex, is_d, char_of, behind, first_of, second_of, fits, pair_tail}
+use Rattle.grammar.specs.Terminals.{is_blank, is_digit, is_positive, is_hex, is_d, char_of, behind, first_of, second_of, fits, pair_tail}
 use Rattle.grammar.specs.Numbers.{is_e, is_sign, Digits, d_one, d_more, Positive, p_one, p_more, Whole, whole_zero, whole_pos, whole_minus_zero, whole_minus, Mantissa, no_fraction, fraction, Sign, no_sign, some_sign, Number, no_exponent, exponent}
 use Rattle.grammar.specs.Grammar.{Ws, w_none, w_more, Seq, q_none, q_more, Chars, c_none, c_plain, c_long, c_escape, c_unit, c_unit_d, c_pair, Named, named, Shows, s_null, s_true, s_false, s_num, s_str, s_arr0, s_arr, s_obj0, s_obj, Padded, padded, ShowsItems, i_one, i_more, ShowsMembers, m_one, m_more}
 use Rattle.grammar.specs.Compact.{print, print_items, print_members, moved, dropped, squeezed}
@@ -103,8 +103,8 @@ d_kept b h = calm b (grind (arith, nat_tests)) (grind (arith, nat_tests))
 c_kept : (b : ℕ) → fits CtoF b ≡ true → Inner (b ∷ [])
 c_kept b h = calm b (grind (arith, nat_tests)) (grind (arith, nat_tests))
 
-tail-kept : (lo n b : ℕ) → 128 ≤ lo → within lo n b ≡ true → Inner (b ∷ [])
-tail-kept lo n b l h = calm b (grind (arith, nat_tests)) (grind (arith, nat_tests))
+tail-kept : (lo hi b : ℕ) → 128 ≤ lo → fits (In lo hi) b ≡ true → Inner (b ∷ [])
+tail-kept lo hi b l h = calm b (grind (arith, nat_tests)) (grind (arith, nat_tests))
 
 first-kept : (b : ℕ) → first_of b ≡ Some OtherHex → Inner (b ∷ [])
 first-kept b h = calm b (grind (arith, nat_tests)) (grind (arith, nat_tests))
@@ -121,14 +121,14 @@ high_kept b h = calm b (grind (arith, nat_tests)) (grind (arith, nat_tests))
 -- bytes of these classes are neither a quote nor a backslash
 data Calm : List Class → Type 0 where
   calm_none : Calm []
-  calm_in : {lo n : ℕ} {cs : List Class} → 128 ≤ lo → Calm cs → Calm (In lo n ∷ cs)
+  calm_in : {lo hi : ℕ} {cs : List Class} → 128 ≤ lo → Calm cs → Calm (In lo hi ∷ cs)
   calm_hex : {cs : List Class} → Calm cs → Calm (Hex ∷ cs)
   calm_d : {cs : List Class} → Calm cs → Calm (IsD ∷ cs)
   calm_c : {cs : List Class} → Calm cs → Calm (CtoF ∷ cs)
 
 seq_kept : {cs : List Class} → Calm cs → {v : List ℕ} → Seq cs v → Inner v
 seq_kept calm_none q_none = λ u. refl
-seq_kept (calm_in {lo} {n} l c) (q_more {v = v} b h q) = inner_then (b ∷ []) v (tail-kept lo n b l h) (seq_kept c q)
+seq_kept (calm_in {lo} {hi} l c) (q_more {v = v} b h q) = inner_then (b ∷ []) v (tail-kept lo hi b l h) (seq_kept c q)
 seq_kept (calm_hex c) (q_more {v = v} b h q) = inner_then (b ∷ []) v (hex-kept b h) (seq_kept c q)
 seq_kept (calm_d c) (q_more {v = v} b h q) = inner_then (b ∷ []) v (d_kept b h) (seq_kept c q)
 seq_kept (calm_c c) (q_more {v = v} b h q) = inner_then (b ∷ []) v (c_kept b h) (seq_kept c q)
@@ -149,10 +149,10 @@ hexes = calm_hex (calm_hex calm_none)
 escape_kept : (b : ℕ) → Inner (92 ∷ b ∷ [])
 escape_kept b = λ u. refl
 
-is_92 : (b : ℕ) → within 92 0 b ≡ true → b ≡ 92
+is_92 : (b : ℕ) → fits (In 92 92) b ≡ true → b ≡ 92
 is_92 b h = grind (arith, nat_tests)
 
-low_kept : {v : List ℕ} → Seq (In 92 0 ∷ In 117 0 ∷ IsD ∷ CtoF ∷ Hex ∷ Hex ∷ []) v → Inner v
+low_kept : {v : List ℕ} → Seq (In 92 92 ∷ In 117 117 ∷ IsD ∷ CtoF ∷ Hex ∷ Hex ∷ []) v → Inner v
 low_kept (q_more b h (q_more {v = v} c i q)) = rw (is_92 b h) (inner_then (92 ∷ c ∷ []) v (escape_kept c) (seq_kept (calm_d (calm_c hexes)) q))
 
 pair-kept : {v : List ℕ} → Seq pair_tail v → Inner v

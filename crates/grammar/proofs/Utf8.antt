@@ -1,6 +1,6 @@
 -- Permitted texts are UTF-8: each token is, and two texts in a row are one.
 -- Assumes nothing.
-use Rattle.std.proofs.Common.{◌≡◌, ℕ, ◌+◌, ◌≤◌, Bool, true, false, cond, ◌&&◌, leb, List, [], ◌∷◌, ◌++◌, sym, refl, ap, ◌∙◌, inl, inr, arith, leb-false, leb-true, Some}
+use Rattle.std.proofs.Common.{◌≡◌, ℕ, ◌≤◌, Bool, true, false, cond, ◌&&◌, leb, List, [], ◌∷◌, ◌++◌, sym, refl, ap, ◌∙◌, inl, inr, arith, leb-false, leb-true, Some}
 use Rattle.std.proofs.lemmas.Bool.Decides.{nat_tests}
 use Rattle.text.specs.Utf8.{Range, range, inside, of_row, is_text}
 use Rattle.text.proofs.Texts.{both, and, is_inside, inside_low, text_append, text_plain}
@@ -79,7 +79,7 @@ high_low b h = grind (arith, nat_tests)
 
 -- ---- the bytes behind the first
 range_of : Class → Range
-range_of (In lo n) = range lo (lo + n)
+range_of (In lo hi) = range lo hi
 range_of Hex = range 0 127
 range_of IsD = range 0 127
 range_of CtoF = range 0 127
@@ -94,7 +94,7 @@ as_and false y = refl
 
 fits-inside : (c : Class) (b : ℕ) → fits c b ≡ true → inside (range_of c) b ≡ true
 unfolding range_of
-fits-inside (In lo n) b h = sym (as_and (leb lo b) (leb b (lo + n))) ∙ h
+fits-inside (In lo hi) b h = sym (as_and (leb lo b) (leb b hi)) ∙ h
 fits-inside Hex b h = is_inside (range 0 127) b (omega arith) (hex_low b h)
 fits-inside IsD b h = is_inside (range 0 127) b (omega arith) (d_low b h)
 fits-inside CtoF b h = is_inside (range 0 127) b (omega arith) (c_low b h)

@@ -23,7 +23,7 @@ pub enum Punct {
     Two,
 }
 
-// What one byte of a longer character may be: a byte of the range that begins at the first number and is the second longer than one byte, a hexadecimal digit, `D`, or `C` to `F`.
+// What one byte of a longer character may be: a byte from the first number to the second, a hexadecimal digit, `D`, or `C` to `F`.
 #[derive(Clone, Copy)]
 pub enum Class {
     In(u8, u8),

@@ -1,8 +1,8 @@
 -- Members one by one, and the one that is looked for.
 -- Assumes nothing.
-use Rattle.std.proofs.Common.{◌≡◌, ℕ, suc, ◌+◌, ◌-◌, ◌<◌, ◌≤◌, Bool, true, false, cond, List, [], ◌∷◌, ◌++◌, length, take, drop, Some, None, Option, sym, refl, ap, ◌∙◌, subst, append_assoc, arith, length-append, length-drop, take-append-drop}
+use Rattle.std.proofs.Common.{◌≡◌, ℕ, suc, ◌+◌, ◌-◌, ◌<◌, ◌≤◌, Bool, true, false, cond, List, [], ◌∷◌, ◌++◌, length, take, drop, Some, None, Option, Err, sym, refl, ap, ◌∙◌, subst, append_assoc, arith, length-append, length-drop, take-append-drop}
 use Rattle.std.specs.List.{slice_range}
-use Rattle.std.specs.Option.{option_or}
+use Rattle.std.specs.Option.{option_or, ok_or}
 use Rattle.std.specs.Bool.{then_some}
 use Rattle.text.specs.Bytes.{same}
 use Rattle.grammar.specs.Ast.{Json, Members, obj, mnone, malso}
@@ -65,6 +65,11 @@ from_place {P} s a r p = subst (λ (x : List ℕ). Part P x r) (to_end s a) p
 
 pub from_get : {P : List ℕ → Type 0} (s : List ℕ) (a : ℕ) (b r : List ℕ) → b ≡ slice_range s a (length s) → Part P b r → Part P (drop a s) r
 from_get {P} s a b r e p = from_place s a r (subst (λ (x : List ℕ). Part P x r) e p)
+
+-- the error given for what is missing
+pub error_is : {T E : Type 0} (o : Option T) (e f : E) → o ≡ None → Err f ≡ ok_or o e → f ≡ e
+error_is None e f n h = cc
+error_is (Some x) e f n h = grind arith
 
 -- where a name is to come, with what was found before it
 pub record Walking (s : List ℕ) (d a : ℕ) (r want : List ℕ) (o : Option ValuePlace) : Type 0 where

@@ -22,15 +22,12 @@ fn look_up(
 ) -> Result<Option<ValuePlace>, DocumentFault>
     ensures { MatchResult result (λ o. LookedUp doc.now cursor.old want.now o) (λ f. FaultAt doc.now cursor.old f) }
 {
-    let Some(bytes) = doc.get(cursor.offset..) else {
-        return Err(DocumentFault::Form);
-    };
-    let Some(members) = blanks(bytes).bytes.strip_prefix(b"{") else {
-        return Err(DocumentFault::Form);
-    };
-    let Some(depth) = cursor.depth.checked_sub(1) else {
-        return Err(DocumentFault::Form);
-    };
+    let bytes = doc.get(cursor.offset..).ok_or(DocumentFault::Form)?;
+    let members = blanks(bytes)
+        .bytes
+        .strip_prefix(b"{")
+        .ok_or(DocumentFault::Form)?;
+    let depth = cursor.depth.checked_sub(1).ok_or(DocumentFault::Form)?;
     *cursor = Cursor {
         offset: doc.len() - members.len(),
         depth,

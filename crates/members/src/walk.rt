@@ -15,6 +15,7 @@ pub struct ValuePlace {
 }
 
 // The value of the first member with the name, of the object whose opening brace stands before the cursor. The cursor goes along.
+// Kept: beside `object` of documents, which keeps nothing of its members; and `follow` stays inside documents, since its bound would be public with it.
 pub(crate) fn walk<'a>(
     doc: &'a [u8],
     cursor: &mut Cursor,
@@ -42,9 +43,10 @@ pub(crate) fn walk<'a>(
         if end.bytes.starts_with(b"}") {
             return Ok(found);
         }
-        let Some(rest) = end.bytes.strip_prefix(b",") else {
-            return Err(Stop { rest: end.bytes });
-        };
+        let rest = end
+            .bytes
+            .strip_prefix(b",")
+            .ok_or(Stop { rest: end.bytes })?;
         member = blanks(rest);
     }
 }

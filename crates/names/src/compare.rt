@@ -11,7 +11,7 @@ fn past_byte(text: &[u8], b: u32) -> Option<&[u8]>
     ensures { MatchOption result (stripped (b ∷ []) text.now ≡ None) (λ r. stripped (b ∷ []) text.now ≡ Some r.now) }
 {
     let (first, rest) = text.split_first()?;
-    (*first as u32 == b).then_some(rest)
+    (u32::from(*first) == b).then_some(rest)
 }
 
 // Behind the UTF-8 of a character.
@@ -42,7 +42,7 @@ fn past_given(text: &[u8], given: Option<Given>) -> Option<&[u8]>
 {
     match given {
         None => Some(text),
-        Some(Given::Byte(b)) => past_byte(text, b as u32),
+        Some(Given::Byte(b)) => past_byte(text, u32::from(b)),
         Some(Given::Code(v)) => past_code(text, v),
     }
 }

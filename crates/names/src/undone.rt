@@ -32,12 +32,12 @@ fn hex_of(b: u8) -> u32
 fn simple_of(b: u8) -> u8
     ensures { result ≡ simple_of b }
 {
-    match b as char {
-        'b' => 8,
-        'f' => 12,
-        'n' => 10,
-        'r' => 13,
-        't' => 9,
+    match b {
+        b'b' => 8,
+        b'f' => 12,
+        b'n' => 10,
+        b'r' => 13,
+        b't' => 9,
         _ => b,
     }
 }

@@ -40,29 +40,47 @@ object-returns-in_err-follow t c =
 pub object-loop-named-preserved : goal.object-loop-named-preserved
 object-loop-named-preserved t c = o_next _ _ _ (o_pair _ _ _ _ _ (o_name _ _ _ _ _ c.loop-named.invariant c.in_ok-named.ensures) c.in_ok-value.ensures c.blanks-end.ensures) _ _ (one_is 44 _ _ c.in_ok-follow.ensures) c.blanks-member-in-loop-named.ensures
 
-pub value-returns-in-Some-Quote : goal.value-returns-in-Some-Quote
-value-returns-in-Some-Quote t c = MatchResult-weaker c.chars.result c.chars.ensures (λ q g. v_string _ _ _ _ c.in-Some.ensures.cases.0 (cc) _ g) (λ q g. v_no_string _ _ _ _ c.in-Some.ensures.cases.0 (cc) _ g)
+pub value-returns-in-Quote-default : goal.value-returns-in-Quote-default
+value-returns-in-Quote-default t c =
+    let f = c.in_ok-tail.ensures in
+    MatchResult-weaker c.chars.result c.chars.ensures (λ q g. v_string _ _ _ _ f.1 (cc) _ g) (λ q g. v_no_string _ _ _ _ f.1 (cc) _ g)
 
-pub value-returns-in-Some-Minus : goal.value-returns-in-Some-Minus
-value-returns-in-Some-Minus t c = MatchResult-weaker c.number.result c.number.ensures (λ q g. v_minus _ _ _ _ c.in-Some.ensures.cases.0 (cc) _ g) (λ q g. v_no_minus _ _ _ _ c.in-Some.ensures.cases.0 (cc) _ g)
+pub value-returns-in-Minus-default : goal.value-returns-in-Minus-default
+value-returns-in-Minus-default t c =
+    let f = c.in_ok-tail.ensures in
+    MatchResult-weaker c.number.result c.number.ensures (λ q g. v_minus _ _ _ _ f.1 (cc) _ g) (λ q g. v_no_minus _ _ _ _ f.1 (cc) _ g)
 
-pub value-returns-in-Some-Zero : goal.value-returns-in-Some-Zero
-value-returns-in-Some-Zero t c = MatchResult-weaker c.number-in-Some-Zero.result c.number-in-Some-Zero.ensures (λ q g. v_zero _ _ _ _ c.in-Some.ensures.cases.0 (cc) _ g) (λ q g. v_no_zero _ _ _ _ c.in-Some.ensures.cases.0 (cc) _ g)
+pub value-returns-in-Zero-default : goal.value-returns-in-Zero-default
+value-returns-in-Zero-default t c =
+    let f = c.in_ok-tail.ensures in
+    MatchResult-weaker c.number-in-Zero-default.result c.number-in-Zero-default.ensures (λ q g. v_zero _ _ _ _ f.1 (cc) _ g) (λ q g. v_no_zero _ _ _ _ f.1 (cc) _ g)
 
-pub value-returns-in-Some-Positive : goal.value-returns-in-Some-Positive
-value-returns-in-Some-Positive t c = MatchResult-weaker c.number-in-Some-Positive.result c.number-in-Some-Positive.ensures (λ q g. v_positive _ _ _ _ c.in-Some.ensures.cases.0 (cc) _ g) (λ q g. v_no_positive _ _ _ _ c.in-Some.ensures.cases.0 (cc) _ g)
+pub value-returns-in-Positive-default : goal.value-returns-in-Positive-default
+value-returns-in-Positive-default t c =
+    let f = c.in_ok-tail.ensures in
+    MatchResult-weaker c.number-in-Positive-default.result c.number-in-Positive-default.ensures (λ q g. v_positive _ _ _ _ f.1 (cc) _ g) (λ q g. v_no_positive _ _ _ _ f.1 (cc) _ g)
 
-pub value-returns-in-Some-OpenArray : goal.value-returns-in-Some-OpenArray
-value-returns-in-Some-OpenArray t c = MatchResult-weaker c.array.result c.array.ensures (λ q g. v_array _ _ _ _ c.in-Some.ensures.cases.0 (search rules) (cc) _ g) (λ q g. v_no_array _ _ _ _ c.in-Some.ensures.cases.0 (search rules) (cc) _ g)
+pub value-returns-in-OpenArray-default : goal.value-returns-in-OpenArray-default
+value-returns-in-OpenArray-default t c =
+    let f = c.in_ok-tail.ensures in
+    MatchResult-weaker c.array.result c.array.ensures (λ q g. v_array _ _ _ _ f.1 (search rules) (cc) _ g) (λ q g. v_no_array _ _ _ _ f.1 (search rules) (cc) _ g)
 
-pub value-returns-in-Some-OpenObject : goal.value-returns-in-Some-OpenObject
-value-returns-in-Some-OpenObject t c = MatchResult-weaker c.object.result c.object.ensures (λ q g. v_object _ _ _ _ c.in-Some.ensures.cases.0 (search rules) (cc) _ g) (λ q g. v_no_object _ _ _ _ c.in-Some.ensures.cases.0 (search rules) (cc) _ g)
+pub value-returns-in-OpenObject-default : goal.value-returns-in-OpenObject-default
+value-returns-in-OpenObject-default t c =
+    let f = c.in_ok-tail.ensures in
+    MatchResult-weaker c.object.result c.object.ensures (λ q g. v_object _ _ _ _ f.1 (search rules) (cc) _ g) (λ q g. v_no_object _ _ _ _ f.1 (search rules) (cc) _ g)
 
-pub value-returns-in-Some-LitT : goal.value-returns-in-Some-LitT
-value-returns-in-Some-LitT t c = MatchResult-weaker c.follow.result c.follow.ensures (λ q g. v_true _ _ _ _ c.in-Some.ensures.cases.0 (cc) _ g) (λ q g. v_no_true _ _ _ _ c.in-Some.ensures.cases.0 (cc) _ g)
+pub value-returns-in-LitT-default : goal.value-returns-in-LitT-default
+value-returns-in-LitT-default t c =
+    let f = c.in_ok-tail.ensures in
+    MatchResult-weaker c.follow.result c.follow.ensures (λ q g. v_true _ _ _ _ f.1 (cc) _ g) (λ q g. v_no_true _ _ _ _ f.1 (cc) _ g)
 
-pub value-returns-in-Some-LitF : goal.value-returns-in-Some-LitF
-value-returns-in-Some-LitF t c = MatchResult-weaker c.follow-in-Some-LitF.result c.follow-in-Some-LitF.ensures (λ q g. v_false _ _ _ _ c.in-Some.ensures.cases.0 (cc) _ g) (λ q g. v_no_false _ _ _ _ c.in-Some.ensures.cases.0 (cc) _ g)
+pub value-returns-in-LitF-default : goal.value-returns-in-LitF-default
+value-returns-in-LitF-default t c =
+    let f = c.in_ok-tail.ensures in
+    MatchResult-weaker c.follow-in-LitF-default.result c.follow-in-LitF-default.ensures (λ q g. v_false _ _ _ _ f.1 (cc) _ g) (λ q g. v_no_false _ _ _ _ f.1 (cc) _ g)
 
-pub value-returns-in-Some-LitN : goal.value-returns-in-Some-LitN
-value-returns-in-Some-LitN t c = MatchResult-weaker c.follow-in-Some-LitN.result c.follow-in-Some-LitN.ensures (λ q g. v_null _ _ _ _ c.in-Some.ensures.cases.0 (cc) _ g) (λ q g. v_no_null _ _ _ _ c.in-Some.ensures.cases.0 (cc) _ g)
+pub value-returns-in-LitN-default : goal.value-returns-in-LitN-default
+value-returns-in-LitN-default t c =
+    let f = c.in_ok-tail.ensures in
+    MatchResult-weaker c.follow-in-LitN-default.result c.follow-in-LitN-default.ensures (λ q g. v_null _ _ _ _ f.1 (cc) _ g) (λ q g. v_no_null _ _ _ _ f.1 (cc) _ g)

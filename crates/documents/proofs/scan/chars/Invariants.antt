@@ -3,8 +3,8 @@ use Rattle.grammar.specs.Grammar.{Chars}
 use Rattle.documents.specs.Reading.{Part}
 use Rattle.documents.proofs.scan.chars.Given as goal
 
-abbrev pub invariant-loop-b : goal.invariant-loop-b
-invariant-loop-b l = Part Chars l.bytes l.rest
+abbrev pub invariant-loop-tail : goal.invariant-loop-tail
+invariant-loop-tail l = Part Chars l.bytes l.rest
 
-abbrev pub decreases-loop-b : goal.decreases-loop-b
-decreases-loop-b l = length l.rest
+abbrev pub decreases-loop-tail : goal.decreases-loop-tail
+decreases-loop-tail l = length l.rest
