@@ -1,5 +1,7 @@
 -- One turn of each loop that makes the class list. Assumes nothing.
-use Rattle.std.proofs.Common.{◌≡◌, ℕ, suc, ◌+◌, ◌-◌, ◌<◌, ◌≤◌, true, false, cond, List, [], ◌∷◌, ◌++◌, map, length, get_or, drop, Some, None, Option, sym, refl, ap, ◌∙◌, append_assoc, append-nil, arith}
+use Rattle.std.proofs.Common.{◌≡◌, ℕ, suc, ◌+◌, ◌-◌, ◌<◌, true, false, cond, List, [], ◌∷◌, ◌++◌, map, length, get_or, drop, Some, None, Option, Bool, Bor, sym, refl, ap, ◌∙◌, append_assoc, append-nil, arith}
+use Rattle.std.specs.List.{slice_get}
+use Rattle.std.specs.Option.{MatchOption, option_copied, option_map}
 use Rattle.std.proofs.lemmas.List.{drop_more}
 use Rattle.paths.specs.Paths.{Path}
 use Rattle.paths.specs.Values.{names_of}
@@ -10,16 +12,18 @@ use Rattle.classes.specs.Classes.{Entry, look, entry, told, last_path, is_last, 
 
 -- ---- the last node
 
-pub no_last : (ns : List Node) → length ns ≤ 0 → last_path (map entry ns) ≡ None
-no_last [] h = refl
-no_last (n ∷ ns) h = absurd (omega arith)
-
-pub last_is : (ns : List Node) (n : Node) → 0 < length ns → n ≡ get_or ns (length ns - 1) n → last_path (map entry ns) ≡ Some (names_of n.path)
-last_is [] n h e = absurd (omega arith)
-last_is (m ∷ []) n h e = ap (λ x. Some (names_of x.path)) (sym e)
-last_is (m ∷ k ∷ ns) n h e =
+-- the path of the last node
+path_at : (ns : List Node) → option_map (λ (n : Node). names_of n.path) (slice_get ns (length ns - 1)) ≡ last_path (map entry ns)
+path_at [] = refl
+path_at (m ∷ []) = refl
+path_at (m ∷ k ∷ ns) =
     let i : suc (suc (length ns)) - 1 ≡ suc (suc (length ns) - 1) = omega arith in
-    last_is (k ∷ ns) n (omega arith) (e ∙ ap (λ j. get_or (m ∷ k ∷ ns) j n) i)
+    ap (λ j. option_map (λ (n : Node). names_of n.path) (slice_get (m ∷ k ∷ ns) j)) i ∙ path_at (k ∷ ns)
+
+-- what is said of the last node, and false where there is none
+pub said_of_last : (ns : List Node) (o : Option (Bor Node)) (p : Path) (r : Bool) (Says : Bor Node → Type 0) → option_copied o ≡ slice_get ns (length ns - 1) → MatchOption o (r ≡ false) Says → ((n : Bor Node) → Says n → r ≡ is_last (Some (names_of n.now.path)) p) → r ≡ is_last (last_path (map entry ns)) p
+said_of_last ns None p r Says e g says = g ∙ ap (λ q. is_last q p) (ap (option_map (λ (n : Node). names_of n.path)) e ∙ path_at ns)
+said_of_last ns (Some n) p r Says e g says = says n g ∙ ap (λ q. is_last q p) (ap (option_map (λ (m : Node). names_of m.path)) e ∙ path_at ns)
 
 last_push : (es : List Entry) (e : Entry) → last_path (es ++ e ∷ []) ≡ Some e.path
 last_push [] e = refl

@@ -60,7 +60,7 @@ impl Marks {
 }
 
 impl Kind {
-    // Kept: a text and no `Display`, since the report pads it to a column.
+    // Kept: a clause knows the padded text of the library's own types alone, and the report pads this one.
     pub fn name(self) -> &'static str
         ensures { result.now ≡ kind_name self }
     {

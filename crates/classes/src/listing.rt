@@ -57,7 +57,7 @@ pub fn class_list(heap: Global, found: &[Found]) -> Result<ClassList, AllocError
     nodes.sort_by(|a, b| a.path.cmp(&b.path))?;
     let ClassList { nodes, mut passed } = settle(heap, nodes.as_slice(), passed)?;
     // one that is refused has no place in path order
-    passed.sort_by(|a, b| text::compare(a.path.as_slice(), b.path.as_slice()))?;
+    passed.sort_by(|a, b| a.path.cmp(&b.path))?;
     Ok(ClassList { nodes, passed })
 }
 
@@ -83,10 +83,10 @@ fn judge_sight(path: NodePath, sight: Sight) -> Result<Node, Reason>
     ensures { answer result ≡ seen (names_of path) sight }
 {
     match sight {
-        Sight::Folder(marks) => match marks.kind() {
-            Some(kind) => Ok(Node { path, kind }),
-            None => Err(Reason::Unmarked),
-        },
+        Sight::Folder(marks) => {
+            let kind = marks.kind().ok_or(Reason::Unmarked)?;
+            Ok(Node { path, kind })
+        }
         Sight::Link => Err(Reason::Link),
         Sight::Unnamed => Err(Reason::Unnamed),
     }
@@ -144,8 +144,5 @@ fn settle(heap: Global, sorted: &[Node], mut passed: Vec<Passed>) -> Result<Clas
 fn is_last(nodes: &[Node], node: &Node) -> bool
     ensures { result ≡ is_last (last_path (map entry nodes.now)) (names_of node.now.path) }
 {
-    match nodes.last() {
-        Some(last) => last.path == node.path,
-        None => false,
-    }
+    nodes.last().is_some_and(|last| last.path == node.path)
 }

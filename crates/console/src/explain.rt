@@ -7,7 +7,7 @@ ghost use Rattle.console.specs.Reports.{sentence, refusal as refusal_of, advice 
 use classes::listing::Reason;
 use paths::PathFault;
 use std::fmt;
-use text::Fault;
+use text::{Fault, FaultReport};
 
 // A reason, printed as one sentence; that of a fault has its number and its layer.
 #[derive(Clone, Copy)]
@@ -46,9 +46,7 @@ fn write_refusal<W: fmt::Write>(
 ) -> fmt::Result
     ensures { WritesOnOk W.write_str_gives f.old result (refusal_of (told_of_path fault) advice.now) f.new }
 {
-    let told = fault.report();
-    let number = told.number;
-    let layer = told.layer.name();
+    let FaultReport { number, layer, .. } = fault.report();
     write!(f, "fault {number} of the {layer} layer, {advice}")
 }
 

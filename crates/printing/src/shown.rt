@@ -1,9 +1,10 @@
 // Bytes as they are printed, so that a line stays a line.
-ghost use Rattle.std.specs.Prelude.{◌≡◌, ◌<◌, ◌++◌, OnOk};
-ghost use Rattle.printing.specs.Shown.{shown, quoted, first, hex_digit};
+ghost use Rattle.std.specs.Prelude.{◌≡◌, ◌++◌, OnOk};
+ghost use Rattle.printing.specs.Shown.{shown, quoted, first, hex};
 
 use std::alloc::AllocError;
 
+// Kept: a struct around the output would have no other field.
 // Adds the bytes: `"` and `\` behind a backslash, bytes below 0x20 and bytes that are not part of well-formed UTF-8 as `\xhh`.
 pub fn push_shown(out: &mut Vec<u8>, bytes: &[u8]) -> Result<(), AllocError>
     ensures { OnOk result (out.new.items ≡ out.old.items ++ shown bytes.now) }
@@ -34,7 +35,7 @@ fn push_first(out: &mut Vec<u8>, byte: u8, length: Option<usize>) -> Result<(), 
     ensures { OnOk result (out.new.items ≡ out.old.items ++ first length byte) }
 {
     if length.is_none() || byte < 0x20 {
-        out.extend_from_slice(&[b'\\', b'x', hex_digit(byte / 16), hex_digit(byte % 16)])?;
+        push_hex(out, byte)?;
     } else if byte == b'"' || byte == b'\\' {
         out.extend_from_slice(&[b'\\', byte])?;
     } else {
@@ -43,13 +44,11 @@ fn push_first(out: &mut Vec<u8>, byte: u8, length: Option<usize>) -> Result<(), 
     Ok(())
 }
 
-fn hex_digit(value: u8) -> u8
-    requires { value < 16 }
-    ensures { result ≡ hex_digit value }
+// Adds a byte as `\xhh`.
+fn push_hex(out: &mut Vec<u8>, byte: u8) -> Result<(), AllocError>
+    ensures { OnOk result (out.new.items ≡ out.old.items ++ hex byte) }
 {
-    if value < 10 {
-        b'0' + value
-    } else {
-        b'a' + (value - 10)
-    }
+    let digits = format!(in *out.allocator(); "\\x{byte:02x}")?;
+    out.extend_from_slice(digits.as_bytes())?;
+    Ok(())
 }

@@ -5,7 +5,7 @@ use std::alloc::{AllocError, AllocFailed};
 use std::process::ExitCode;
 use std::{env, fs, io};
 
-// Kept: a derived error holds the allocator's, and this one prints no more than `Memory`.
+// Kept: main prints the failure by Debug, and a derived Memory would print what it holds; the other program's first case prints another name.
 #[derive(Debug, Drop)]
 enum Failure {
     Io(io::Error),

@@ -19,6 +19,7 @@ impl<'a> Lines<'a> {
     }
 
     // The next line with its number, from 1. No empty line stands behind the last line feed.
+    // Kept: a base is left amid the lines, and what runs on it promises that fewer bytes are left then, by a clause of this call.
     pub(crate) fn next_line(&mut self) -> Option<(usize, &'a [u8])>
         ensures line { MatchOption result (length self.old.rest.now ≡ 0) (λ l. l.1.now ≡ before_first (λ b. b == 10) self.old.rest.now) }
         ensures fewer { FewerLeft result self.old.rest.now self.new.rest.now }

@@ -66,7 +66,7 @@ impl Pile {
     }
 
     // The call, performed through the three layers.
-    // Kept: work done through the layers of `piles` has to tell what it does to a store, which no call of a script tells.
+    // Kept: piles::Work promises which references a store still holds, and the calls of a script have no such clause.
     fn perform_through<S: WriteStore>(
         &self,
         session: &mut Session,

@@ -67,19 +67,21 @@ impl Session {
     fn dump<S: ListStore>(&mut self, store: &S) -> Result<(), AllocError> {
         let mut lines = Vec::new(self.heap);
         let mut after = Vec::new(self.heap);
-        let mut count: u64 = 0;
-        // Kept: how many keys a store has is known to the store alone, so the turns are counted.
-        for _ in 0..u64::MAX {
+        // Kept: every loop has to end, and how many keys a store has is known to the store alone, so the turns are counted.
+        for count in 0..u64::MAX {
             let Some(key) = key_after(self.heap, store, after.as_slice())? else {
-                break;
+                return self.push_dump(count, lines.as_slice());
             };
             self.push_pair(store, key.as_slice(), &mut lines)?;
             after = key;
-            count = count.saturating_add(1);
         }
+        self.push_dump(u64::MAX, lines.as_slice())
+    }
+
+    fn push_dump(&mut self, count: u64, lines: &[u8]) -> Result<(), AllocError> {
         let head = format!(in self.heap; "ok {count}\n")?;
         self.answers.push_text(head.as_bytes())?;
-        self.answers.push_text(lines.as_slice())
+        self.answers.push_text(lines)
     }
 
     // A line with a key and its value.

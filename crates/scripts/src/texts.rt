@@ -10,8 +10,9 @@ use text::FaultReport;
 #[derive(Clone, Copy)]
 pub(crate) enum Given {
     Done,
-    Nothing,
     Path(NodePath),
+    // the root has none
+    Parent(Option<NodePath>),
     Key(StoreKey),
     Order(Ordering),
 }
@@ -22,8 +23,8 @@ pub(crate) fn push_given(
 ) -> Result<(), AllocError> {
     match given {
         Ok(Given::Done) => answers.push_ok(),
-        Ok(Given::Nothing) => answers.push_none(),
-        Ok(Given::Path(path)) => answers.push_bytes(path.as_bytes()),
+        Ok(Given::Parent(None)) => answers.push_none(),
+        Ok(Given::Path(path) | Given::Parent(Some(path))) => answers.push_bytes(path.as_bytes()),
         Ok(Given::Key(key)) => answers.push_bytes(key.as_bytes()),
         Ok(Given::Order(order)) => answers.push_text(order_line(order)),
         Err(fault) => answers.push_fault(fault),
@@ -49,7 +50,7 @@ pub(crate) fn path(text: &[u8]) -> Result<Given, FaultReport> {
 
 pub(crate) fn parent(text: &[u8]) -> Result<Given, FaultReport> {
     let path = NodePath::new(text)?;
-    Ok(path.parent().map_or(Given::Nothing, Given::Path))
+    Ok(Given::Parent(path.parent()))
 }
 
 pub(crate) fn join(base: &[u8], relative: &[u8]) -> Result<Given, FaultReport> {

@@ -7,13 +7,14 @@ use std::str;
 use text::FaultReport;
 
 // What a call gives.
-// Kept: beside the calls of `scripts`, whose answers are other lines; a crate for both, with contracts, would be longer than these.
+// Kept: seven calls are like those of scripts, whose answers are other lines; in a crate for both each would need a contract and an edit of its own.
 #[derive(Clone, Copy)]
 pub(crate) enum Given {
     Test(bool),
     Done,
-    Nothing,
     Path(NodePath),
+    // the root has none
+    Parent(Option<NodePath>),
     // the last name of a path
     Name(NodePath),
     Depth(usize),
@@ -45,8 +46,8 @@ pub(crate) fn spelled(
         Ok(Given::Test(true)) => said(heap, "yes"),
         Ok(Given::Test(false)) => said(heap, "no"),
         Ok(Given::Done) => said(heap, "ok"),
-        Ok(Given::Nothing) => said(heap, "none"),
-        Ok(Given::Path(path)) => granted(heap, path.as_bytes()),
+        Ok(Given::Parent(None)) => said(heap, "none"),
+        Ok(Given::Path(path) | Given::Parent(Some(path))) => granted(heap, path.as_bytes()),
         Ok(Given::Name(path)) => granted(heap, path.name()),
         Ok(Given::Depth(depth)) => Ok(format!(in heap; "{depth}")?.into_bytes()),
         Ok(Given::Key(key)) => granted(heap, key.as_bytes()),
@@ -116,7 +117,7 @@ fn row(path: &[u8]) -> Result<Given, FaultReport> {
 
 fn parent(path: &[u8]) -> Result<Given, FaultReport> {
     let path = NodePath::new(path)?;
-    Ok(path.parent().map_or(Given::Nothing, Given::Path))
+    Ok(Given::Parent(path.parent()))
 }
 
 fn depth(path: &[u8]) -> Result<Given, FaultReport> {

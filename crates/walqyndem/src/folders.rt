@@ -17,7 +17,7 @@ pub(crate) fn find<'a>(rt: &'a HostRuntime, archive: &'a str) -> Result<Vec<Foun
         pending: Vec::new(heap),
     };
     walk.see_root()?;
-    // Kept: the disk alone decides how many folders there are, so the turns are counted.
+    // Kept: every loop has to end, and the disk alone decides how many folders there are, so the turns are counted.
     for _ in 0..u64::MAX {
         let Some(folder) = walk.pending.pop() else {
             break;

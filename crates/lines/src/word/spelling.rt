@@ -51,10 +51,8 @@ fn unhex(heap: Global, digits: &[u8]) -> Result<Vec<u8>, AllocError>
     ensures { IfOk result (λ v. v.items ≡ unhexed digits.now) }
 {
     let mut out = Vec::new(heap);
-    let mut rest = digits;
-    while let [a, b, behind @ ..] = rest {
-        out.push(16 * hex_value(*a) + hex_value(*b))?;
-        rest = behind;
+    for pair in digits.chunks_exact(2) {
+        out.push(16 * hex_value(pair[0]) + hex_value(pair[1]))?;
     }
     Ok(out)
 }

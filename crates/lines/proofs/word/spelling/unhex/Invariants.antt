@@ -1,9 +1,7 @@
-use Rattle.std.proofs.Common.{◌≡◌, true, ◌++◌, length, vec_items}
+use Rattle.std.proofs.Common.{◌≡◌, true, ◌++◌, vec_items}
+use Rattle.std.specs.Slice.Iter.{chunks_exact_rest, chunks_exact_size}
 use Rattle.lines.specs.Words.{are_hex, unhexed}
 use Rattle.lines.proofs.word.spelling.unhex.Given as goal
 
-abbrev pub invariant-loop-rest : goal.invariant-loop-rest
-invariant-loop-rest l = record { pairs : are_hex l.rest ≡ true; so_far : unhexed l.digits ≡ vec_items l.out ++ unhexed l.rest }
-
-abbrev pub decreases-loop-rest : goal.decreases-loop-rest
-decreases-loop-rest l = length l.rest
+abbrev pub invariant-loop-pair : goal.invariant-loop-pair
+invariant-loop-pair l = record { two : chunks_exact_size l.pair-iterator ≡ 2; pairs : are_hex (chunks_exact_rest l.pair-iterator) ≡ true; so_far : unhexed l.digits ≡ vec_items l.out ++ unhexed (chunks_exact_rest l.pair-iterator) }
