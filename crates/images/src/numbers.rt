@@ -3,7 +3,7 @@ ghost use Rattle.std.specs.Prelude.{◌≡◌, ◌+◌, ◌<◌, ◌≤◌, leng
 ghost use Rattle.images.specs.Layout.{number2, number4};
 
 // Two bytes.
-// Kept: a function for each size, since `from_le_bytes` belongs to each number type and to no trait, and a fold over so many bytes would be longer.
+// Kept: a function for each size, since `from_le_bytes` belongs to each number type and to no trait, and a fold over so many bytes would hide the two sizes.
 pub(crate) fn short(bytes: &[u8], at: usize) -> usize
     requires { at + 2 ≤ length bytes.now }
     ensures is { result ≡ number2 bytes.now at }

@@ -32,7 +32,6 @@ impl<'a> Record<'a> {
 
     // The record at a place, if a pair has one there.
     fn at(image: &'a [u8], at: usize) -> Option<Record<'a>>
-        requires { at ≤ length image.now }
         ensures { MatchOption result (pair_at image.now at ≡ false) (λ r. (pair_at image.now at ≡ true) × (r.image.now ≡ image.now) × (r.at ≡ at)) }
     {
         if has_pair(image, at) {
@@ -71,10 +70,9 @@ fn inside(image: &[u8], place: usize, n: usize) -> bool
 
 // Whether a whole record of a pair lies at a place, and its parts in the image.
 fn has_pair(image: &[u8], at: usize) -> bool
-    requires { at ≤ length image.now }
     ensures { result ≡ pair_at image.now at }
 {
-    if image.len() - at < RECORD || image[at] != 1 {
+    if image.len().saturating_sub(at) < RECORD || image[at] != 1 {
         return false;
     }
     let key_place = long(image, at + 1);
@@ -86,7 +84,6 @@ fn has_pair(image: &[u8], at: usize) -> bool
 
 // The record at a place, if its key is one and comes after the last one.
 fn next<'a>(last: &[u8], image: &'a [u8], at: usize) -> Option<Record<'a>>
-    requires { at ≤ length image.now }
     ensures { MatchOption result (good_at last.now image.now at ≡ false) (λ r. (good_at last.now image.now at ≡ true) × (r.image.now ≡ image.now) × (r.at ≡ at)) }
 {
     let record = Record::at(image, at)?;

@@ -14,7 +14,7 @@ pub const MAX_KEY: usize = 400;
 // The most bytes of a prefix: those of a key, and a `/`.
 pub const MAX_PREFIX: usize = 401;
 
-// Kept: two types of one field, whose functions are shared; one type would need a marker and a trait for each form, which is longer than both.
+// Kept: two types of one field, whose functions are shared; they differ by a `bool` as well, and a struct with a ghost field takes no `bool` const parameter.
 
 // A key: 1 to 400 bytes of text, no `/` at either end and no `//`.
 #[derive(Clone, Copy)]

@@ -13,7 +13,7 @@ fn digit_on(n: usize, digit: u8) -> Option<usize>
 }
 
 // The number that a word writes in digits.
-// Kept: the library's parse takes a + in front too, and a script's number is digits alone.
+// Kept: the library's parse takes a + in front too, and with a test for digits beside it it is no shorter.
 pub(crate) fn number_of(word: &[u8]) -> Option<usize>
     ensures { result ≡ number_of word.now }
 {

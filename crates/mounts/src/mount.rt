@@ -67,6 +67,7 @@ impl<S: ListStore> ListStore for Mount<'_, '_, S> {
         }
         let whole = self.whole::<401>(prefix)?;
         let from = joined_cut(front, after);
+        // Kept: no heap in the engine, and no store has a longer key.
         let mut key = [0u8; 400];
         let seen = self
             .store

@@ -15,6 +15,7 @@ pub struct Inline<const N: usize> {
 
 impl<const N: usize> Inline<N> {
     // The three parts one after the other, or none if they are longer than N bytes.
+    // Kept: three slices side by side, here and where they are handed on; a struct of the three would say no more.
     pub fn of(front: &[u8], middle: &[u8], back: &[u8]) -> Option<Inline<N>>
         ensures { MatchOption result (N < length front.now + length middle.now + length back.now) (λ v. take v.len v.bytes ≡ front.now ++ (middle.now ++ back.now)) }
     {

@@ -41,6 +41,7 @@ impl Layers<'_, StorePrefix> {
     }
 
     // Counts the children that show through the three layers: the fences hide nothing.
+    // Kept: no `Work`, whose promise speaks of what a store means, where a count speaks of the list of its pairs.
     pub fn count_children<S: WriteStore>(
         &self,
         store: &mut S,

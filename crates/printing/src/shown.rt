@@ -4,7 +4,7 @@ ghost use Rattle.printing.specs.Shown.{shown, quoted, first, hex};
 
 use std::alloc::AllocError;
 
-// Kept: a struct around the output would have no other field.
+// Kept: these functions share the output alone, and a method's receiver would say no more than `out`.
 // Adds the bytes: `"` and `\` behind a backslash, bytes below 0x20 and bytes that are not part of well-formed UTF-8 as `\xhh`.
 pub fn push_shown(out: &mut Vec<u8>, bytes: &[u8]) -> Result<(), AllocError>
     ensures { OnOk result (out.new.items ≡ out.old.items ++ shown bytes.now) }

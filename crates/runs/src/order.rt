@@ -5,6 +5,7 @@ ghost use Rattle.text.specs.Bytes.{before};
 use text::{begins_with, compare};
 
 // Whether a text comes before another.
+// Kept: it says `<` in the words of the definitions, which the contracts of the crates above are written in.
 #[tactic(auto, using(crate::proofs::Parted::is_lt_before))]
 pub fn is_before(a: &[u8], b: &[u8]) -> bool
     ensures { result ≡ before a.now b.now }

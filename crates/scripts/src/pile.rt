@@ -66,7 +66,7 @@ impl Pile {
     }
 
     // The call, performed through the three layers.
-    // Kept: piles::Work promises which references a store still holds, and the calls of a script have no such clause.
+    // Kept: as a `Work` of piles it would need a struct and promises of its own for these three lines; the store is of another type in each layer, so it is no field either.
     fn perform_through<S: WriteStore>(
         &self,
         session: &mut Session,

@@ -97,7 +97,7 @@ impl Session {
             self.answers.push_unknown(number)?;
             return Ok(None);
         };
-        // Kept: each layer answers its own calls and passes the rest on; nesting the enum would change what `lines` is proved to hear.
+        // Kept: each layer answers its own calls and passes the rest on; in a nested enum each call would be named twice, by its layer and by itself.
         match call {
             Call::Shelf(slots, bytes) => {
                 self.answers.push_ok()?;

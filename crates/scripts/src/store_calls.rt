@@ -67,7 +67,7 @@ impl Session {
     fn dump<S: ListStore>(&mut self, store: &S) -> Result<(), AllocError> {
         let mut lines = Vec::new(self.heap);
         let mut after = Vec::new(self.heap);
-        // Kept: every loop has to end, and how many keys a store has is known to the store alone, so the turns are counted.
+        // Kept: the number of turns is the number of keys, which the answer begins with.
         for count in 0..u64::MAX {
             let Some(key) = key_after(self.heap, store, after.as_slice())? else {
                 return self.push_dump(count, lines.as_slice());
@@ -85,6 +85,7 @@ impl Session {
     }
 
     // A line with a key and its value.
+    // Kept: a key that was listed has a value, so one that has none needs no answer of its own.
     fn push_pair<S: ReadStore>(
         &mut self,
         store: &S,

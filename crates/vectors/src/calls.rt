@@ -7,7 +7,7 @@ use std::str;
 use text::FaultReport;
 
 // What a call gives.
-// Kept: seven calls are like those of scripts, whose answers are other lines; in a crate for both each would need a contract and an edit of its own.
+// Kept: seven calls are like those of scripts, whose answers are other lines; each is two lines, and a crate for them would be longer.
 #[derive(Clone, Copy)]
 pub(crate) enum Given {
     Test(bool),
@@ -146,6 +146,7 @@ fn compare(one: &[u8], two: &[u8]) -> Result<Given, FaultReport> {
     Ok(Given::Order(one.cmp(&two)))
 }
 
+// Kept: the words of a script for the four files, but that a vector's last one may be any word.
 fn meta_key(file: &[u8], path: &[u8]) -> Result<Given, FaultReport> {
     let path = NodePath::new(path)?;
     let file = match file {

@@ -9,7 +9,7 @@ use super::NodePath;
 use std::cmp::Ordering;
 use text::{ByteRank, compare_by};
 
-// Kept: paths compare name by name, which is no order of the fields, and equality has to agree with the order, so none of these four is derived.
+// Kept: paths compare name by name, which is no order of the fields; equality is told by names too, where a derived one would tell of bytes.
 impl PartialEq for NodePath {
     ghost eq = { λ a b. same_path (names_of a) (names_of b) };
 

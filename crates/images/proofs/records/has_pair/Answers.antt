@@ -1,13 +1,13 @@
 use Rattle.std.proofs.Common.{true, false, leb, length, ◌+◌, refl, sym, ◌∙◌, arith}
 use Rattle.images.proofs.Reading.{pair_short, pair_other, pair_here}
-use Rattle.images.proofs.records.has_pair.Goals.{then-image-at-lt-RECORD-via-then-image-at-lt-RECORD, then-image-at-lt-RECORD-via-else-image-at-lt-RECORD+then-image-at-ne1}
+use Rattle.images.proofs.records.has_pair.Goals.{then-saturating_sub-lt-RECORD-via-then-saturating_sub-lt-RECORD, then-saturating_sub-lt-RECORD-via-else-saturating_sub-lt-RECORD+then-image-at-ne1}
 use Rattle.images.proofs.records.has_pair.Goals as goal
 
-pub returns-then-image-at-lt-RECORD : goal.returns-then-image-at-lt-RECORD
-returns-then-image-at-lt-RECORD c =
-    elim c.then-image-at-lt-RECORD.branch [
-      | then-image-at-lt-RECORD-via-then-image-at-lt-RECORD w ↦ sym (pair_short c.args.image.now c.args.at (omega arith))
-      | then-image-at-lt-RECORD-via-else-image-at-lt-RECORD+then-image-at-ne1 w ↦ sym (pair_other c.args.image.now c.args.at w.if-image-at-ne1.true)
+pub returns-then-saturating_sub-lt-RECORD : goal.returns-then-saturating_sub-lt-RECORD
+returns-then-saturating_sub-lt-RECORD c =
+    elim c.then-saturating_sub-lt-RECORD.branch [
+      | then-saturating_sub-lt-RECORD-via-then-saturating_sub-lt-RECORD w ↦ sym (pair_short c.args.image.now c.args.at (omega arith))
+      | then-saturating_sub-lt-RECORD-via-else-saturating_sub-lt-RECORD+then-image-at-ne1 w ↦ sym (pair_other c.args.image.now c.args.at w.if-image-at-ne1.true)
     ]
 
 pub returns-then-inside : goal.returns-then-inside
