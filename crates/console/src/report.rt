@@ -8,7 +8,7 @@ use classes::listing::{ClassList, Node, Passed};
 use printing::push_shown;
 use std::alloc::{AllocError, Global};
 
-// Kept: the parts of a report share its text alone, and a method's receiver would say no more than `out`.
+// Kept: the parts of a report share its text, and those of the list its width; a method's receiver would say no more than `out`.
 // The numbered list of the nodes, what was passed over and why, and the totals.
 pub fn report(heap: Global, archive: &str, list: &ClassList) -> Result<Vec<u8>, AllocError>
     ensures { IfOk result (λ v. v.items ≡ report_text archive.now (map entry list.now.nodes.items) (map told list.now.passed.items)) }

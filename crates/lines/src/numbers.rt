@@ -13,7 +13,7 @@ fn digit_on(n: usize, digit: u8) -> Option<usize>
 }
 
 // The number that a word writes in digits.
-// Kept: the library's parse takes a + in front too, and with a test for digits beside it it is no shorter.
+// Kept: with the library's parse behind a test for digits the proof did not close that both read the same number.
 pub(crate) fn number_of(word: &[u8]) -> Option<usize>
     ensures { result ≡ number_of word.now }
 {

@@ -85,7 +85,7 @@ impl Session {
     }
 
     // A line with a key and its value.
-    // Kept: a key that was listed has a value, so one that has none needs no answer of its own.
+    // Kept: a key that was listed is well formed and has a value, and the room is as large as any base's bytes, so neither none nor a refusal needs an answer of its own.
     fn push_pair<S: ReadStore>(
         &mut self,
         store: &S,

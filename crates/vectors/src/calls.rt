@@ -7,7 +7,7 @@ use std::str;
 use text::FaultReport;
 
 // What a call gives.
-// Kept: seven calls are like those of scripts, whose answers are other lines; each is two lines, and a crate for them would be longer.
+// Kept: seven calls are like those of scripts, whose answers are other lines; six are one to three lines, the seventh reads its file by another rule, and a crate for them would be longer.
 #[derive(Clone, Copy)]
 pub(crate) enum Given {
     Test(bool),

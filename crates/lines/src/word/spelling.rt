@@ -58,7 +58,7 @@ fn unhex(heap: Global, digits: &[u8]) -> Result<Vec<u8>, AllocError>
 }
 
 // The value of a hexadecimal digit.
-// Kept: beside that of `names`, which answers for every byte, in 32 bits.
+// Kept: one line, as `hex_of` of `names` has, on which this crate does not lean; to share it would take a public function of a third crate.
 fn hex_value(digit: u8) -> u8
     requires { is_hex digit ≡ true }
     ensures is { result ≡ hex_value digit }
