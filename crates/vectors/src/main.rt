@@ -8,6 +8,7 @@ use calls::{answer, spelled};
 use std::alloc::{AllocError, AllocFailed, Global};
 use std::io;
 use std::process::ExitCode;
+use std::str::Split;
 use words::decoded;
 
 // Kept: main prints the failure by Debug, and a derived Memory would print what it holds; the other program's first case prints another name.
@@ -47,31 +48,26 @@ fn run_line(heap: Global, line: &str) -> Result<Option<Vector>, AllocError> {
     if line.is_empty() || line.starts_with('%') {
         return Ok(None);
     }
-    let words: Vec<&str> = line.split(' ').collect(heap)?;
-    let equals = words
-        .iter()
-        .position(|word| *word == "=")
-        .unwrap_or(words.len());
-    let (call, expected) = words.split_at(equals);
-    let call = all_decoded(heap, call)?;
+    let mut words = line.split(' ');
+    let call = decoded_call(heap, &mut words)?;
     let got = spelled(heap, answer(call.as_slice()))?;
-    let expected = spaced(heap, expected)?;
+    let expected = spaced(heap, words)?;
     Ok(Some(Vector { got, expected }))
 }
 
-// The bytes of each word.
-fn all_decoded(heap: Global, words: &[&str]) -> Result<Vec<Vec<u8>>, AllocError> {
-    let mut all = Vec::new(heap);
-    for word in words {
-        all.push(decoded(heap, word)?)?;
+// The bytes of each word up to a `=`, which is taken too.
+fn decoded_call(heap: Global, words: &mut Split<'_, char>) -> Result<Vec<Vec<u8>>, AllocError> {
+    let mut call = Vec::new(heap);
+    for word in words.take_while(|word| *word != "=") {
+        call.push(decoded(heap, word)?)?;
     }
-    Ok(all)
+    Ok(call)
 }
 
 // The bytes of the words that are no `=`, with one space between two.
-fn spaced(heap: Global, words: &[&str]) -> Result<Vec<u8>, AllocError> {
+fn spaced(heap: Global, words: Split<'_, char>) -> Result<Vec<u8>, AllocError> {
     let mut line = Vec::new(heap);
-    for (i, word) in words.iter().filter(|word| **word != "=").enumerate() {
+    for (i, word) in words.filter(|word| *word != "=").enumerate() {
         if i > 0 {
             line.push(b' ')?;
         }

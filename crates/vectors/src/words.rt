@@ -22,3 +22,22 @@ fn digit_value(digit: u8) -> u8 {
         _ => 0,
     }
 }
+
+#[cfg(test)]
+mod tests {
+    use super::decoded;
+    use std::test::Fail;
+
+    // Words that no vector of the repository has: an odd digit, digits that are none, capitals.
+    #[test]
+    fn reads_what_is_no_pair_of_digits(rt: HostRuntime) -> Result<(), Fail> {
+        let heap = rt.alloc();
+        assert!(rt; decoded(heap, "#4")?.as_slice() == b"\x04".as_slice());
+        assert!(rt; decoded(heap, "#zz")?.as_slice() == b"\x00".as_slice());
+        assert!(rt; decoded(heap, "#2F61")?.as_slice() == b"\x20a".as_slice());
+        assert!(rt; decoded(heap, "#c3a9")?.as_slice() == b"\xc3\xa9".as_slice());
+        assert!(rt; decoded(heap, "#")?.as_slice() == b"".as_slice());
+        assert!(rt; decoded(heap, "a#6")?.as_slice() == b"a#6".as_slice());
+        Ok(())
+    }
+}
