@@ -1,2 +1,4 @@
+mod Places
 mod Searching
 mod Slides
+mod Totals
