@@ -1,8 +1,8 @@
 -- What tells that a record may be put in at a place, or in the place of another. Assumes nothing.
-use Rattle.std.proofs.Common.{◌≡◌, ℕ, ◌+◌, ◌-◌, ◌<◌, ◌≤◌, Bool, true, false, List, get_or, sym, refl, ap, ◌∙◌, subst, ⊎_elim, eq-or-lt_of_le, arith}
+use Rattle.std.proofs.Common.{◌≡◌, ℕ, ◌+◌, ◌-◌, ◌<◌, ◌≤◌, Bool, true, false, List, get_or, sym, refl, ◌∙◌, subst, ⊎_elim, eq-or-lt_of_le, arith}
 use borrow.Author.Tests.{clash}
 use Rattle.std.specs.Cmp.{IsStrictWeakOrder}
-use Rattle.table.specs.Order.{Ascending, Same, Parts, Found, Between, Alike}
+use Rattle.table.specs.Order.{Ascending, Parts, Found, Between, Alike}
 
 module _ {X : Type 0} (first : X → X → Bool) where
   -- one that compares with every record as the one at a place does stands between the others there

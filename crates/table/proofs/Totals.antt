@@ -1,5 +1,5 @@
 -- What a comparison of a total order says of the order that it gives. Assumes nothing.
-use Rattle.std.proofs.Common.{◌≡◌, ℕ, ◌<◌, true, false, List, get_or, Ordering, Less, Equal, Greater, sym, refl, ap, ◌∙◌}
+use Rattle.std.proofs.Common.{◌≡◌, ℕ, true, false, List, Ordering, Less, Equal, Greater, sym, refl, ap, ◌∙◌}
 use borrow.Author.Tests.{clash}
 use Rattle.std.specs.Cmp.{IsTotalOrder, IsStrictWeakOrder, alike_right, tied_back}
 use Rattle.std.specs.Ordering.{MatchOrdering, is_lt, ordering_reverse}

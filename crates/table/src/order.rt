@@ -6,7 +6,6 @@ ghost use Rattle.table.specs.Order.{Same, ranked};
 mod total;
 
 use std::cmp::Ordering;
-
 pub use total::ByOrd;
 
 // A record with a strict order: what comes before what comes before a third comes before that, and nothing before itself.

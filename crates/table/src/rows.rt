@@ -5,9 +5,8 @@ ghost use Rattle.table.specs.Order.{Ascending, Located};
 mod edit;
 mod record;
 
-pub use record::Record;
-
 use crate::order::{ByOrd, Ordered, rank};
+pub use record::Record;
 use std::marker::PhantomData;
 
 // Why a record is not put in: every slot is taken, or one that is the same stands at an index.
