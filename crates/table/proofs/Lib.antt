@@ -1,4 +1,4 @@
-mod Places
+pub mod Places
 mod Searching
 mod Slides
-mod Totals
+pub mod Totals

@@ -10,6 +10,7 @@ pub use total::ByOrd;
 
 // A record with a strict order: what comes before what comes before a third comes before that, and nothing before itself.
 // A record may have several, so each goes by a type that names it.
+// Kept: the library's `Ord` is a total order, and a table's need only be strict.
 pub trait Ordered<By>: Sized {
     ghost before: { Self → Self → Bool };
 

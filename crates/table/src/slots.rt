@@ -2,6 +2,7 @@
 ghost use Rattle.std.specs.Prelude.{◌≡◌, ◌<◌, ◌≤◌, length, slice_index_or, MatchOption};
 
 // Some lent slots, and how many of the first of them hold a record.
+// Kept: as for Table.
 #[derive(Drop)]
 pub struct Slots<'a, T> {
     slots: &'a mut [T],
