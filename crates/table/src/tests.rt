@@ -6,7 +6,7 @@ use crate::{Ordered, Refusal, Slots, Table};
 use std::cmp::Ordering;
 use std::test::Fail;
 
-// One comes before another if it is smaller in both numbers, and has no order of the library.
+// One comes before another if it is smaller in both numbers. There is no `Ord`.
 #[derive(Clone, Copy, PartialEq, Debug)]
 struct Pair(u8, u8);
 

@@ -92,8 +92,8 @@ impl<T: Ordered<By> + Copy, By> Table<'_, T, By> {
         self.len = len + 1;
     }
 
-    // Puts a record in the place of one that is the same in the order, if all others keep their places. Where it is refused, nothing is changed.
-    // Where what is the same as the same is the same, as in each total order, they do; and so for a record that compares with every record as the old one.
+    // Puts a record in the place of one that is the same in the order, if it stands between the two beside it. Where it is refused, nothing is changed.
+    // In an order where what is the same as the same is the same, as in a total one, it always stands there; so does one that compares with every record as the old one does.
     pub fn replace(&mut self, i: usize, x: T) -> bool
         ensures same { self.new.slots.ghost_name ≡ self.old.slots.ghost_name }
         ensures granted { Decides result (Found T.before self.old.slots.now self.old.len x i × Between T.before self.old.slots.now self.old.len x i) }
