@@ -1,4 +1,4 @@
--- The rows of the table: what the code's rows say of bytes, and that one row at most begins with a byte.
+-- The rows of the table: what the code's rows say of bytes, that one row at most begins with a byte, and the sequence in front of a text.
 -- Assumes nothing.
 use Rattle.std.proofs.Common.{◌≡◌, ℕ, zero, suc, ◌+◌, ◌-◌, ◌*◌, ◌^◌, ◌<◌, ◌≤◌, Bool, true, false, cond, ◌&&◌, ◌==◌, ltb, leb, List, [], ◌∷◌, map, length, get_or, take, drop, Some, None, Option, unwrap_or, Bor, sym, refl, ap, ◌∙◌, subst, arith, rules, tests, leb-true, ltb-true, ltb-false, le-ltb, lt-ltb, max}
 use lib.Count.{count_leading_zeros, leading_unique, leading_length}
@@ -8,7 +8,7 @@ use Rattle.std.proofs.lemmas.List.{length-map, drop_all}
 use Rattle.std.specs.List.{list_all, find, zip}
 use Rattle.text.specs.Bytes.{Bytes}
 use Rattle.text.specs.Rows.{range_of, fits, width_of}
-use Rattle.text.specs.Utf8.{Range, inside, of_row, begins, rows, length_in, sequence_length, unless_zero}
+use Rattle.text.specs.Utf8.{Range, inside, of_row, begins, behind, is_text_in, is_text, rows, length_in, sequence_length, unless_zero}
 use Rattle.text.specs.declared.utf8.ByteRange.{ByteRange}
 use Rattle.text.proofs.Texts.{both, inside_low}
 
@@ -176,6 +176,77 @@ none_begins h b [] e l = refl
 none_begins h b ([] ∷ more) e l = absurd (clash e)
 none_begins h b ((r ∷ p) ∷ more) e l =
     let s = rises h r p more e in rw (outside r b (omega arith)) (none_begins (suc r.high) b more s.2 (omega arith))
+
+none_length : (ms : List (List Range)) (h b : ℕ) (t : Bytes) → rising h ms ≡ true → b < h → length_in ms (b ∷ t) ≡ 0
+none_length [] h b t e l = refl
+none_length ([] ∷ more) h b t e l = absurd (clash e)
+none_length ((r ∷ p) ∷ more) h b t e l =
+    let s = rises h r p more e in rw (outside r b (omega arith)) (none_length more (suc r.high) b t s.2 (omega arith))
+
+-- the row that begins with the byte decides
+abbrev fitting : List (List Range) → ℕ → Bytes → Bool
+fitting ms b t = begins ms b && of_row (behind ms b) (take (length (behind ms b)) t)
+
+length-first : (h : ℕ) (ms : List (List Range)) (b : ℕ) (t : Bytes) → rising h ms ≡ true → length_in ms (b ∷ t) ≡ cond (fitting ms b t) (suc (length (behind ms b))) 0
+length-first h [] b t e = refl
+length-first h ([] ∷ more) b t e = absurd (clash e)
+length-first h ((r ∷ p) ∷ more) b t e =
+    let s = rises h r p more e in by s.2 (length-first (suc r.high) more b t s.2) (inside r b) refl
+  where
+    by : rising (suc r.high) more ≡ true → length_in more (b ∷ t) ≡ cond (fitting more b t) (suc (length (behind more b))) 0 → (x : Bool) → inside r b ≡ x → length_in ((r ∷ p) ∷ more) (b ∷ t) ≡ cond (fitting ((r ∷ p) ∷ more) b t) (suc (length (behind ((r ∷ p) ∷ more) b))) 0
+    by up rest true i =
+        let w = inside_low r b i in rw (i, none_length more (suc r.high) b t up (omega arith))
+    by up rest false i = rw i rest
+
+-- ---- a turn of the test
+run_is : (p : List Range) (t : Bytes) → is_text_in p t ≡ (of_row p (take (length p) t) && is_text (drop (length p) t))
+run_is [] t = refl
+run_is (r ∷ p) [] = refl
+run_is (r ∷ p) (b ∷ t) =
+    elim (inside r b) as (λ x. (x && is_text_in p t) ≡ ((x && of_row p (take (length p) t)) && is_text (drop (length p) t))) [ true ↦ run_is p t | false ↦ refl ]
+
+turn_is : (b : ℕ) (t : Bytes) → is_text (b ∷ t) ≡ (fitting rows b t && is_text (drop (length (behind rows b)) t))
+turn_is b t =
+    (elim (begins rows b) as (λ x. (x && is_text_in (behind rows b) t) ≡ ((x && of_row (behind rows b) (take (length (behind rows b)) t)) && is_text (drop (length (behind rows b)) t)))
+    [ true ↦ run_is (behind rows b) t | false ↦ refl ])
+
+pub text_none : (t : Bytes) → 0 < length t → sequence_length t ≡ 0 → is_text t ≡ false
+unfolding sequence_length
+text_none [] h e = absurd (omega arith)
+text_none (b ∷ t) h e =
+    turn_is b t ∙ by (fitting rows b t) (sym (length-first 0 rows b t refl) ∙ e)
+  where
+    by : (x : Bool) → cond x (suc (length (behind rows b))) 0 ≡ 0 → (x && is_text (drop (length (behind rows b)) t)) ≡ false
+    by true z = absurd (omega arith)
+    by false z = refl
+
+pub text_more : (t : Bytes) (n : ℕ) → n ≡ sequence_length t → (n ≡ 0 → ⊥) → is_text t ≡ is_text (drop n t)
+unfolding sequence_length
+text_more [] n e ne = absurd (ne e)
+text_more (b ∷ t) n e ne =
+    turn_is b t ∙ by (fitting rows b t) (e ∙ length-first 0 rows b t refl)
+  where
+    by : (x : Bool) → n ≡ cond x (suc (length (behind rows b))) 0 → (x && is_text (drop (length (behind rows b)) t)) ≡ is_text (drop n (b ∷ t))
+    by true z = sym (ap (λ m. is_text (drop m (b ∷ t))) z)
+    by false z = absurd (ne z)
+
+-- ---- the sequence in front
+-- no sequence is longer than what it stands in
+fit_le : (row : List Range) (t : Bytes) → of_row row (take (length row) t) ≡ true → length row ≤ length t
+fit_le [] t e = omega arith
+fit_le (r ∷ row) [] e = absurd (clash e)
+fit_le (r ∷ row) (b ∷ t) e =
+    let i : length row ≤ length t = fit_le row t (both (inside r b) (of_row row (take (length row) t)) e).1 in omega arith
+
+length_le : (ms : List (List Range)) (t : Bytes) → length_in ms t ≤ length t
+length_le [] t = omega arith
+length_le (row ∷ more) t =
+    (elim (of_row row (take (length row) t)) as (λ x. of_row row (take (length row) t) ≡ x → cond x (length row) (length_in more t) ≤ length t)
+    [ true ↦ λ e. fit_le row t e | false ↦ λ e. length_le more t ]) refl
+
+pub sequence_le : (t : Bytes) → sequence_length t ≤ length t
+unfolding sequence_length
+sequence_le t = length_le rows t
 
 -- ---- one, or as many as the leading ones
 one_bit : (b : ℕ) → b < 128 → 0 ≡ count_leading_zeros 8 (255 - b)
