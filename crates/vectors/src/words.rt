@@ -11,8 +11,10 @@ pub(crate) fn decoded(heap: Global, word: &str) -> Result<Vec<u8>, AllocError> {
 }
 
 fn pair_value(pair: &[u8]) -> u8 {
-    pair.iter()
-        .fold(0u8, |value, digit| value.wrapping_mul(16).wrapping_add(digit_value(*digit)))
+    pair.iter().fold(
+        0u8,
+        |value, digit| value.wrapping_mul(16).wrapping_add(digit_value(*digit)),
+    )
 }
 
 fn digit_value(digit: u8) -> u8 {
