@@ -55,6 +55,7 @@ pub struct ClassList {
     pub passed: Vec<Passed>,
 }
 
+// Kept: a derive would compare the kind too.
 impl PartialEq for Node {
     ghost eq = { λ a b. same_path (names_of a.path) (names_of b.path) };
 
@@ -94,6 +95,7 @@ impl Ord for Node {
     }
 }
 
+// Kept: a derive would compare the reason too.
 impl PartialEq for Passed {
     ghost eq = { λ a b. same a.path.items b.path.items };
 

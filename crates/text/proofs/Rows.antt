@@ -39,6 +39,21 @@ all_inside [] t h = refl
 all_inside (r ∷ row) [] h = absurd (omega arith)
 all_inside (r ∷ row) (b ∷ t) h = ap (λ x. inside (range_of r) b && x) (all_inside row t (omega arith))
 
+-- ---- a row of the table and bytes
+-- bytes of a row are as many as its ranges
+pub row_length : (row : List Range) (t : Bytes) → of_row row t ≡ true → length row ≡ length t
+row_length [] [] e = refl
+row_length [] (b ∷ t) e = absurd (clash e)
+row_length (r ∷ row) [] e = absurd (clash e)
+row_length (r ∷ row) (b ∷ t) e = ap suc (row_length row t (both (inside r b) (of_row row t) e).1)
+
+is_false : (b : Bool) → (b ≡ true → ⊥) → b ≡ false
+is_false true h = absurd (h refl)
+is_false false h = refl
+
+pub row_unlike : (row : List Range) (t : Bytes) → (length row ≡ length t → ⊥) → of_row row t ≡ false
+row_unlike row t h = is_false (of_row row t) (λ e. h (row_length row t e))
+
 -- ---- the first row that fits
 abbrev pub is_row : Bor (List ByteRange) → Bool
 is_row row = ltb 0 (length row.now)
