@@ -1,12 +1,18 @@
 // The class list of an archive: from what was found in its folders to its nodes in path order.
-ghost use Rattle.std.specs.Prelude.{◌≡◌, ◌++◌, map, IfOk};
+ghost use Rattle.std.specs.Prelude.{◌≡◌, ◌++◌, map, IfOk, Some, refl};
+ghost use Rattle.text.specs.Bytes.{same, byte_order};
+ghost use Rattle.paths.specs.Paths.{path_order, same_path};
 ghost use Rattle.paths.specs.Values.{names_of};
 ghost use Rattle.classes.specs.declared.listing.Reason.TheVariants.{Refused};
 ghost use Rattle.classes.specs.Classes.{entry, told, look, answer, judged, seen, has_reserved, allowed, granted_of, passed_of, last_path, is_last, kept, repeats, repeated, Listed};
+ghost use Rattle.std.specs.Cmp.{on_equiv, on_total, partial_equiv_from_equiv, partial_order_from_agreeing_total};
+ghost use Rattle.text.proofs.TotalOrders.{byte_order_total, same_equivalence, same_ties};
+ghost use Rattle.paths.specs.TotalOrders.{path_order_total, same_path_equivalence, same_path_ties};
 
 use crate::found::{Found, Kind, Sight};
 use paths::{NodePath, PathFault, is_reserved};
 use std::alloc::{AllocError, Global};
+use std::cmp::Ordering;
 
 // A node of the archive; its class number is its index in the list.
 #[derive(Clone, Copy)]
@@ -47,6 +53,86 @@ pub struct Passed {
 pub struct ClassList {
     pub nodes: Vec<Node>,
     pub passed: Vec<Passed>,
+}
+
+// Kept: a derive would compare the kind too.
+impl PartialEq for Node {
+    ghost eq = { λ a b. same_path (names_of a.path) (names_of b.path) };
+
+    ghost laws = { partial_equiv_from_equiv (on_equiv (λ n. names_of n.path) same_path_equivalence) };
+
+    fn eq(&self, other: &Node) -> bool {
+        self.cmp(other).is_eq()
+    }
+}
+
+impl Eq for Node {
+    ghost laws = { on_equiv (λ n. names_of n.path) same_path_equivalence };
+}
+
+impl PartialOrd for Node {
+    ghost partial_cmp = { λ a b. Some (path_order (names_of a.path) (names_of b.path)) };
+
+    ghost laws = { partial_order_from_agreeing_total (λ a b. path_order (names_of a.path) (names_of b.path)) (on_total (λ n. names_of n.path) path_order_total) (λ _ _. refl) (λ a b. same_path_ties (names_of a.path) (names_of b.path)) };
+
+    fn partial_cmp(&self, other: &Node) -> Option<Ordering> {
+        Some(self.cmp(other))
+    }
+}
+
+// By path alone, in path order.
+impl Ord for Node {
+    ghost cmp = { λ a b. path_order (names_of a.path) (names_of b.path) };
+
+    ghost total = { on_total (λ n. names_of n.path) path_order_total };
+
+    ghost matches_partial_cmp = { λ _ _. refl };
+
+    ghost matches_eq = { λ a b. same_path_ties (names_of a.path) (names_of b.path) };
+
+    fn cmp(&self, other: &Node) -> Ordering {
+        self.path.cmp(&other.path)
+    }
+}
+
+// Kept: a derive would compare the reason too.
+impl PartialEq for Passed {
+    ghost eq = { λ a b. same a.path.items b.path.items };
+
+    ghost laws = { partial_equiv_from_equiv (on_equiv (λ p. p.path.items) same_equivalence) };
+
+    fn eq(&self, other: &Passed) -> bool {
+        self.cmp(other).is_eq()
+    }
+}
+
+impl Eq for Passed {
+    ghost laws = { on_equiv (λ p. p.path.items) same_equivalence };
+}
+
+impl PartialOrd for Passed {
+    ghost partial_cmp = { λ a b. Some (byte_order a.path.items b.path.items) };
+
+    ghost laws = { partial_order_from_agreeing_total (λ a b. byte_order a.path.items b.path.items) (on_total (λ p. p.path.items) byte_order_total) (λ _ _. refl) (λ a b. same_ties a.path.items b.path.items) };
+
+    fn partial_cmp(&self, other: &Passed) -> Option<Ordering> {
+        Some(self.cmp(other))
+    }
+}
+
+// By the bytes of the path: one that is refused has no place in path order.
+impl Ord for Passed {
+    ghost cmp = { λ a b. byte_order a.path.items b.path.items };
+
+    ghost total = { on_total (λ p. p.path.items) byte_order_total };
+
+    ghost matches_partial_cmp = { λ _ _. refl };
+
+    ghost matches_eq = { λ a b. same_ties a.path.items b.path.items };
+
+    fn cmp(&self, other: &Passed) -> Ordering {
+        text::compare(self.path.as_slice(), other.path.as_slice())
+    }
 }
 
 // Lists what was found: the nodes in path order, each path once, and what was passed over, by the bytes of the paths.

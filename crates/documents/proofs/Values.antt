@@ -1,22 +1,32 @@
 -- Values.
 -- Assumes nothing.
-use Rattle.std.proofs.Common.{◌≡◌, ℕ, suc, ◌-◌, ◌<◌, true, List, [], ◌∷◌, ◌++◌, Some, Option, sym, refl, ap, ◌∙◌, subst, append_assoc, arith}
+use Rattle.std.proofs.Common.{◌≡◌, ℕ, suc, ◌-◌, ◌<◌, true, false, List, [], ◌∷◌, ◌++◌, Some, Option, sym, refl, ap, ◌∙◌, subst, append_assoc, arith}
 use Rattle.std.proofs.lemmas.Bool.Decides.{nat_tests}
 use Rattle.grammar.specs.Ast.{Json, null, tru, fals, num, str}
 use Rattle.grammar.specs.Grammar.{Shows, s_null, s_true, s_false, s_num, s_str}
 use Rattle.grammar.specs.Machine.{Stack, value, St, val, first, members, aft, nums, chars, lit, go, step_val, run}
 use Rattle.grammar.specs.Numbers.{p_one, At, a_minus, a_zero, a_whole}
-use Rattle.grammar.specs.Terminals.{is_positive, start_of}
+use Rattle.grammar.specs.Terminals.{is_blank, is_positive, start_of}
 use Rattle.grammar.specs.declared.kinds.Start.{Start}
-use Rattle.grammar.specs.declared.kinds.Start.TheVariants.{Quote, Minus, Zero, Positive, OpenArray, OpenObject, LitT, LitF, LitN}
+use Rattle.grammar.specs.declared.kinds.Start.TheVariants.{Blank, Quote, Minus, Zero, Positive, OpenArray, OpenObject, LitT, LitF, LitN}
 use Rattle.grammar.specs.declared.kinds.Phase.{Phase}
 use Rattle.grammar.specs.declared.kinds.Phase.TheVariants.{AtMinus, AtZero, AtWhole}
-use Rattle.documents.specs.Reading.{Part, Refuses, AnyValue, AnyArray, AnyObject, AnyNumber, AnyString, Each, Differs, GotString, GotNumber, GotValue, GotArray, GotObject}
+use Rattle.documents.specs.Reading.{Part, NoBlank, Refuses, AnyValue, AnyArray, AnyObject, AnyNumber, AnyString, Each, Differs, GotString, GotNumber, GotValue, GotArray, GotObject}
 use Rattle.documents.proofs.Parts.{part_front, go_at}
 use Rattle.documents.proofs.Words.{SameByte, word_part, word_stops}
 use Rattle.documents.proofs.Strings.{str_at}
 
 -- what the byte is
+blank_is : (b : ℕ) → start_of b ≡ Some Blank → is_blank b ≡ true
+blank_is b h = grind (arith, nat_tests)
+
+-- where no white space comes, none begins a value
+pub v_blank : (b : ℕ) (t : List ℕ) → start_of b ≡ Some Blank → NoBlank (b ∷ t) → ⊥
+v_blank b t e n =
+    let f : is_blank b ≡ true = blank_is b e in
+    let g : is_blank b ≡ false = n in
+    cc
+
 quote_is : (b : ℕ) → start_of b ≡ Some Quote → b ≡ 34
 quote_is b h = grind (arith, nat_tests)
 

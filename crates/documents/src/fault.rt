@@ -30,7 +30,7 @@ impl Fault for DocumentFault {
     }
 }
 
-// The rest of some bytes that can be continued to a text up to here, and with the first byte of the rest no further.
+// What is left of some bytes from a place on. Where a reader refuses with it, the bytes before the place can be continued to a text, and with the next one no more.
 #[derive(Clone, Copy)]
 pub struct Stop<'a> {
     pub rest: &'a [u8],

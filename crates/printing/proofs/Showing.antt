@@ -1,36 +1,10 @@
 -- What one sequence adds to what is printed. Assumes nothing.
-use Rattle.std.proofs.Common.{◌≡◌, ℕ, zero, suc, ◌-◌, ◌≤◌, Bool, true, false, cond, ◌&&◌, Option, List, [], ◌∷◌, ◌++◌, length, get_or, take, drop, sym, refl, ap, ◌∙◌, subst, append_assoc, arith}
+use Rattle.std.proofs.Common.{◌≡◌, ℕ, zero, suc, ◌-◌, ◌≤◌, Option, [], ◌∷◌, ◌++◌, length, get_or, take, drop, sym, refl, ap, ◌∙◌, subst, append_assoc, arith}
 use Rattle.std.proofs.lemmas.List.{take_rest}
 use Rattle.text.specs.Bytes.{Bytes}
-use Rattle.text.specs.Utf8.{Range, inside, of_row, rows, length_in, sequence_length, unless_zero}
-use borrow.Author.Tests.{clash}
+use Rattle.text.specs.Utf8.{sequence_length, unless_zero}
+use Rattle.text.proofs.Rows.{sequence_le}
 use Rattle.printing.specs.Shown.{first, shown, shown_in}
-
--- ---- no sequence is longer than what it stands in
-
-second : (a b : Bool) → (a && b) ≡ true → b ≡ true
-second true b e = e
-second false b e = absurd (clash e)
-
-fit_le : (row : List Range) (t : Bytes) → of_row row (take (length row) t) ≡ true → length row ≤ length t
-fit_le [] t e = omega arith
-fit_le (r ∷ row) [] e = absurd (clash e)
-fit_le (r ∷ row) (b ∷ t) e =
-    let i : length row ≤ length t = fit_le row t (second (inside r b) (of_row row (take (length row) t)) e) in omega arith
-
-length_le : (ms : List (List Range)) (t : Bytes) → length_in ms t ≤ length t
-length_le [] t = omega arith
-length_le (row ∷ more) t = by (of_row row (take (length row) t)) refl (length_le more t)
-  where
-    by : (x : Bool) → of_row row (take (length row) t) ≡ x → length_in more t ≤ length t → cond x (length row) (length_in more t) ≤ length t
-    by true e rest = fit_le row t e
-    by false e rest = rest
-
-sequence_le : (t : Bytes) → sequence_length t ≤ length t
-unfolding sequence_length
-sequence_le t = length_le rows t
-
--- ---- one sequence more
 
 -- what is left of a sequence stands as it is
 as_is : (k : ℕ) (t : Bytes) → k ≤ length t → shown_in k t ≡ take k t ++ shown (drop k t)

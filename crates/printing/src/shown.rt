@@ -1,6 +1,6 @@
 // Bytes as they are printed, so that a line stays a line.
-ghost use Rattle.std.specs.Prelude.{◌≡◌, ◌++◌, OnOk};
-ghost use Rattle.printing.specs.Shown.{shown, quoted, first, hex};
+ghost use Rattle.std.specs.Prelude.{◌≡◌, ◌<◌, ◌++◌, OnOk};
+ghost use Rattle.printing.specs.Shown.{shown, quoted, first, hex, hex_digit};
 
 use std::alloc::AllocError;
 
@@ -48,7 +48,16 @@ fn push_first(out: &mut Vec<u8>, byte: u8, length: Option<usize>) -> Result<(), 
 fn push_hex(out: &mut Vec<u8>, byte: u8) -> Result<(), AllocError>
     ensures { OnOk result (out.new.items ≡ out.old.items ++ hex byte) }
 {
-    let digits = format!(in *out.allocator(); "\\x{byte:02x}")?;
-    out.extend_from_slice(digits.as_bytes())?;
-    Ok(())
+    out.extend_from_slice(&[b'\\', b'x', hex_digit(byte / 16), hex_digit(byte % 16)])
+}
+
+// Kept: formatted by the library, each byte would take a text of its own from the heap.
+fn hex_digit(value: u8) -> u8
+    requires { value < 16 }
+    ensures { result ≡ hex_digit value }
+{
+    match value {
+        0..=9 => b'0' + value,
+        _ => b'a' + (value - 10),
+    }
 }

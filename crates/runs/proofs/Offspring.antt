@@ -10,7 +10,7 @@ use Rattle.stores.specs.Pairs.{Pairs, Ascends, within, segment, children, next_c
 use Rattle.runs.specs.Places.{key_at}
 use Rattle.runs.specs.Search.{Parted}
 use Rattle.runs.specs.Openings.{Leads, Passed, First}
-use Rattle.runs.proofs.Parted.{strip_parts, before_both, before_front, past_prefix, between_slash, slash_high, slash_low, smaller_front, take_not_before}
+use Rattle.runs.proofs.Parted.{strip_parts, before_both, before_front, past_prefix, between_slash, slash_high, slash_low, slash_low_of, smaller_front, take_not_before}
 use Rattle.runs.proofs.Least.{least_by}
 use Rattle.runs.proofs.Segments.{segment_of, segment-take, segment_parts}
 use Rattle.runs.proofs.ByPlace.{ascends_at, high_on, child_at, child_of}
@@ -92,17 +92,18 @@ module _ (ps : Pairs) (a : Ascends ps) (p after : Bytes) (i : ℕ) (d : Passed p
       by (inr (inl q)) = d j t q l e
       by (inr (inr q)) = no_child ps p after j t (ap within (past_prefix p after (key_at ps i) (key_at ps j) b n (ascends_at ps i j a q l))) e
 
+  -- what is sought behind the `/` of a child lies further on
+  pub skip_on : (t : Bytes) → within (stripped p (key_at ps i)) ≡ Some t → i < length ps → (r x : ℕ) → Parted ((p ++ t) ++ (x ∷ [])) ps r → 47 < x → i < r
+  skip_on t e h r x s l = by (cases_lt i r)
+    where
+      c : Child p (key_at ps i) t
+      c = child_parts p (key_at ps i) t e
+
+      by : (i < r) ⊎ (r ≤ i) → i < r
+      by (inl g) = g
+      by (inr g) = absurd (both_ways (before (key_at ps i) ((p ++ t) ++ (x ∷ []))) (s.high i g h) (ap (λ (y : Bytes). before y ((p ++ t) ++ (x ∷ []))) c.is ∙ slash_low_of (p ++ t) c.more x l))
+
   module _ (t : Bytes) (e : within (stripped p (key_at ps i)) ≡ Some t) (h : i < length ps) (r : ℕ) (s : Parted ((p ++ t) ++ (48 ∷ [])) ps r) where
-    pub skip_on : i < r
-    skip_on = by (cases_lt i r)
-      where
-        c : Child p (key_at ps i) t
-        c = child_parts p (key_at ps i) t e
-
-        by : (i < r) ⊎ (r ≤ i) → i < r
-        by (inl g) = g
-        by (inr g) = absurd (both_ways (before (key_at ps i) ((p ++ t) ++ (48 ∷ []))) (s.high i g h) (ap (λ (x : Bytes). before x ((p ++ t) ++ (48 ∷ []))) c.is ∙ slash_low (p ++ t) c.more))
-
     pub passed_skip : before after t ≡ false → Passed ps p after r
     passed_skip n j u k l f = by (cases_lt j i)
       where

@@ -1,6 +1,6 @@
 -- The order by bytes where texts are given in parts.
 -- Assumes nothing.
-use Rattle.std.proofs.Common.{◌≡◌, ℕ, Bool, zero, suc, ◌-◌, ◌≤◌, true, false, cond, eqb, ◌⊎◌, [], ◌∷◌, ◌++◌, length, take, drop, is_some, Some, None, Option, sym, refl, ap, ◌∙◌, inl, inr, arith, length-append, eq-eqb}
+use Rattle.std.proofs.Common.{◌≡◌, ℕ, Bool, zero, suc, ◌-◌, ◌<◌, ◌≤◌, true, false, cond, eqb, ◌⊎◌, [], ◌∷◌, ◌++◌, length, take, drop, is_some, Some, None, Option, sym, refl, ap, ◌∙◌, inl, inr, arith, length-append, eq-eqb, ne_eqb, lt-ltb}
 use Rattle.std.proofs.lemmas.Bool.{both_ways, eqb-true, cases_Bool}
 use Rattle.std.proofs.lemmas.List.{drop_at, take_rest}
 use Rattle.std.proofs.lemmas.Bool.Decides.{nat_tests}
@@ -124,6 +124,9 @@ between_slash (x ∷ f) (y ∷ k) h b =
 
 pub slash_high : (f m : Bytes) → before (f ++ (47 ∷ m)) (f ++ (47 ∷ [])) ≡ false
 slash_high f m = before_both f (47 ∷ m) (47 ∷ []) ∙ before_nil m
+
+pub slash_low_of : (f m : Bytes) (x : ℕ) → 47 < x → before (f ++ (47 ∷ m)) (f ++ (x ∷ [])) ≡ true
+slash_low_of f m x h = before_both f (47 ∷ m) (x ∷ []) ∙ rw (ne_eqb 47 x (λ e. omega arith), lt-ltb 47 x h) refl
 
 pub slash_low : (f m : Bytes) → before (f ++ (47 ∷ m)) (f ++ (48 ∷ [])) ≡ true
 slash_low f m = before_both f (47 ∷ m) (48 ∷ [])

@@ -49,12 +49,11 @@ module _ (ps : Pairs) (a : Ascends ps) (p after : Bytes) (i : ℕ) (d : Passed p
       pub turn_long : length p + n ≤ length (key_at ps i)
       turn_long = omega (arith, (cut_of (rest p key) (Some n) e).0, ap length behind ∙ length-drop (length p) key, ap length ek)
 
-      module _ (h : i < length ps) (r : ℕ) (s : Parted (take (length p + n) key ++ (48 ∷ [])) ps r) where
-        parted : Parted ((p ++ take n (drop (length p) (key_at ps i))) ++ (48 ∷ [])) ps r
-        parted = subst (λ (x : Bytes). Parted (x ++ (48 ∷ [])) ps r) (ap (take (length p + n)) ek ∙ front_parts p (key_at ps i) n (ap (λ (x : Bytes). is_some (stripped p x)) (sym ek) ∙ sym b)) s
+      parted : (r x : ℕ) → Parted (take (length p + n) key ++ (x ∷ [])) ps r → Parted ((p ++ take n (drop (length p) (key_at ps i))) ++ (x ∷ [])) ps r
+      parted r x s = subst (λ (y : Bytes). Parted (y ++ (x ∷ [])) ps r) (ap (take (length p + n)) ek ∙ front_parts p (key_at ps i) n (ap (λ (y : Bytes). is_some (stripped p y)) (sym ek) ∙ sym b)) s
 
-        pub turn_on : i < r
-        turn_on = skip_on ps a p after i d (take n (drop (length p) (key_at ps i))) turn_child h r parted
+      pub turn_on : i < length ps → (r x : ℕ) → Parted (take (length p + n) key ++ (x ∷ [])) ps r → 47 < x → i < r
+      turn_on h r x s l = skip_on ps a p after i d (take n (drop (length p) (key_at ps i))) turn_child h r x (parted r x s) l
 
-        pub turn_skip : false ≡ before after (take n (rest p key)) → Passed ps p after r
-        turn_skip q = passed_skip ps a p after i d (take n (drop (length p) (key_at ps i))) turn_child h r parted (ap (before after) (sym child_is) ∙ sym q)
+      pub turn_skip : i < length ps → (r : ℕ) → Parted (take (length p + n) key ++ (48 ∷ [])) ps r → false ≡ before after (take n (rest p key)) → Passed ps p after r
+      turn_skip h r s q = passed_skip ps a p after i d (take n (drop (length p) (key_at ps i))) turn_child h r (parted r 48 s) (ap (before after) (sym child_is) ∙ sym q)

@@ -1,2 +1,4 @@
+pub mod Places
 mod Searching
 mod Slides
+pub mod Totals

@@ -1,7 +1,13 @@
-// The ordered table, written once for any record with a total order.
+// The ordered table, written once for any record with a strict order.
 #![tactic(auto)]
 
+mod order;
 mod rows;
 mod shift;
+mod slots;
+#[cfg(test)]
+mod tests;
 
+pub use order::{ByOrd, Ordered};
 pub use rows::{Record, Refusal, Table};
+pub use slots::Slots;

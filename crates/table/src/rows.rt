@@ -1,11 +1,13 @@
 // The table: a run of lent slots and how many of them hold a record.
 ghost use Rattle.std.specs.Prelude.{◌≡◌, ◌<◌, ◌≤◌, length, take, slice_index_or, MatchOption};
-ghost use Rattle.table.specs.Order.{before, Ascending, Located};
+ghost use Rattle.table.specs.Order.{Ascending, Located};
 
 mod edit;
 mod record;
 
+use crate::order::{ByOrd, Ordered, rank};
 pub use record::Record;
+use std::marker::PhantomData;
 
 // Why a record is not put in: every slot is taken, or one that is the same stands at an index.
 #[derive(Clone, Copy, PartialEq, Eq, Debug)]
@@ -17,25 +19,30 @@ pub enum Refusal {
 // The records in the first `len` of the lent slots, ascending.
 // Kept: no heap in the engine, so the records lie in lent slots with their number beside them.
 #[derive(Drop)]
-pub struct Table<'a, T: Ord> {
+pub struct Table<'a, T: Ordered<By>, By = ByOrd> {
     slots: &'a mut [T],
     len: usize,
+    by: PhantomData<By>,
     pub ghost within: { len ≤ length slots.now },
-    pub ghost ascends: { Ascending (before T.cmp) slots.now len },
+    pub ghost ascends: { Ascending T.before slots.now len },
 }
 
-impl<'a, T: Ord> Table<'a, T> {
+impl<'a, T: Ordered<By>, By> Table<'a, T, By> {
     // A table with no record.
-    pub fn new(slots: &'a mut [T]) -> Table<'a, T>
+    pub fn new(slots: &'a mut [T]) -> Table<'a, T, By>
         ensures empty { result.len ≡ 0 }
         ensures slots { result.slots.now ≡ slots.old }
         ensures same { result.slots.ghost_name ≡ slots.entry.ghost_name }
     {
-        Table { slots, len: 0 }
+        Table {
+            slots,
+            len: 0,
+            by: PhantomData,
+        }
     }
 }
 
-impl<T: Ord> Table<'_, T> {
+impl<T: Ordered<By>, By> Table<'_, T, By> {
     // How many records there are.
     pub fn len(&self) -> usize
         ensures { result ≡ self.now.len }
@@ -66,8 +73,8 @@ impl<T: Ord> Table<'_, T> {
 
     // Where a record stands, or where it would.
     pub fn find(&self, x: &T) -> Result<usize, usize>
-        ensures { Located (before T.cmp) self.now.slots.now self.now.len x.now result }
+        ensures { Located T.before self.now.slots.now self.now.len x.now result }
     {
-        self.records().binary_search(x)
+        self.records().binary_search_by(|y| rank::<T, By>(y, x))
     }
 }

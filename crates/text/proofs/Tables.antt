@@ -1,9 +1,9 @@
 -- The test and the table: it grants sequences of the rows, one after the other, and nothing else.
 -- Assumes nothing.
-use Rattle.std.proofs.Common.{◌≡◌, ℕ, suc, Bool, true, false, cond, List, [], ◌∷◌, ◌++◌, refl, ap, ◌∙◌, subst, inl, inr, arith}
+use Rattle.std.proofs.Common.{◌≡◌, ℕ, suc, Bool, true, false, cond, List, [], ◌∷◌, ◌++◌, length, take, refl, ap, ◌∙◌, subst, inl, inr, arith}
 use borrow.Author.Tests.{both_ways, clash}
 use Rattle.text.specs.Bytes.{Bytes}
-use Rattle.text.specs.Utf8.{Range, inside, rows, of_row, In, Text, begins, behind, is_text_in, is_text}
+use Rattle.text.specs.Utf8.{Range, inside, rows, of_row, In, Text, begins, behind, is_text_in, is_text, length_in, sequence_length}
 use Rattle.text.specs.Utf8.Text.{nothing, sequence}
 use Rattle.text.proofs.Rows.{rising, rises, none_begins}
 use Rattle.text.proofs.Texts.{both, and, inside_low, text_append}
@@ -85,3 +85,16 @@ to_text t e = let w = run-split [] t e in by w.front w.back w.of w.whole w.text
     by : (s u : Bytes) → of_row [] s ≡ true → s ++ u ≡ t → Text u → Text t
     by [] u o q x = subst Text q x
     by (b ∷ s) u o q x = absurd (clash o)
+
+-- ---- the sequence in front is text
+front_text : (ms : List (List Range)) (t : Bytes) → ((row : List Range) → In row ms → In row rows) → is_text (take (length_in ms t) t) ≡ true
+front_text [] t f = refl
+front_text (row ∷ more) t f =
+    (elim (of_row row (take (length row) t)) as (λ x. of_row row (take (length row) t) ≡ x → is_text (take (cond x (length row) (length_in more t)) t) ≡ true) [
+      | true ↦ λ e. row_text_lem row (take (length row) t) (f row (inl refl)) e
+      | false ↦ λ e. front_text more t (λ w i. f w (inr i))
+    ]) refl
+
+pub sequence_text : (t : Bytes) → is_text (take (sequence_length t) t) ≡ true
+unfolding sequence_length
+sequence_text t = front_text rows t (λ row i. i)

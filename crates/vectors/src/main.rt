@@ -2,12 +2,14 @@
 #![tactic(auto)]
 
 mod calls;
+mod words;
 
 use calls::{answer, spelled};
-use lines::word::Word;
 use std::alloc::{AllocError, AllocFailed, Global};
 use std::io;
 use std::process::ExitCode;
+use std::str::Split;
+use words::decoded;
 
 // Kept: main prints the failure by Debug, and a derived Memory would print what it holds; the other program's first case prints another name.
 #[derive(Debug, Drop)]
@@ -34,11 +36,11 @@ impl<T: Drop> From<AllocFailed<T>> for Failure {
     }
 }
 
-// A line that is a vector: what its call gives, and what it must give, which is none where a word of that is no bytes.
+// A line that is a vector: what its call gives, and what it must give.
 #[derive(Drop)]
 struct Vector {
     got: Vec<u8>,
-    expected: Option<Vec<u8>>,
+    expected: Vec<u8>,
 }
 
 // Runs the vector in a line, which is none in an empty line or behind a `%`.
@@ -46,43 +48,32 @@ fn run_line(heap: Global, line: &str) -> Result<Option<Vector>, AllocError> {
     if line.is_empty() || line.starts_with('%') {
         return Ok(None);
     }
-    let words: Vec<&str> = line.split(' ').collect(heap)?;
-    let equals = words
-        .iter()
-        .position(|word| *word == "=")
-        .unwrap_or(words.len());
-    let (call, expected) = words.split_at(equals);
-    let call = decoded(heap, call)?;
-    let got = spelled(heap, call.and_then(|words| answer(words.as_slice())))?;
-    let expected = spaced(heap, expected)?;
+    let mut words = line.split(' ');
+    let call = decoded_call(heap, &mut words)?;
+    let got = spelled(heap, answer(call.as_slice()))?;
+    let expected = spaced(heap, words)?;
     Ok(Some(Vector { got, expected }))
 }
 
-// The bytes of each word, or none where one is no bytes.
-fn decoded(heap: Global, words: &[&str]) -> Result<Option<Vec<Vec<u8>>>, AllocError> {
-    let mut all = Vec::new(heap);
-    for word in words {
-        let Some(word) = Word::new(word.as_bytes()) else {
-            return Ok(None);
-        };
-        all.push(word.bytes(heap)?)?;
+// The bytes of each word up to a `=`, which is taken too.
+fn decoded_call(heap: Global, words: &mut Split<'_, char>) -> Result<Vec<Vec<u8>>, AllocError> {
+    let mut call = Vec::new(heap);
+    for word in words.take_while(|word| *word != "=") {
+        call.push(decoded(heap, word)?)?;
     }
-    Ok(Some(all))
+    Ok(call)
 }
 
-// The bytes of the words that are no `=`, with one space between two, or none where one is no bytes.
-fn spaced(heap: Global, words: &[&str]) -> Result<Option<Vec<u8>>, AllocError> {
+// The bytes of the words that are no `=`, with one space between two.
+fn spaced(heap: Global, words: Split<'_, char>) -> Result<Vec<u8>, AllocError> {
     let mut line = Vec::new(heap);
-    for (i, word) in words.iter().filter(|word| **word != "=").enumerate() {
-        let Some(word) = Word::new(word.as_bytes()) else {
-            return Ok(None);
-        };
+    for (i, word) in words.filter(|word| *word != "=").enumerate() {
         if i > 0 {
             line.push(b' ')?;
         }
-        line.extend_from_slice(word.bytes(heap)?.as_slice())?;
+        line.extend_from_slice(decoded(heap, word)?.as_slice())?;
     }
-    Ok(Some(line))
+    Ok(line)
 }
 
 fn main(rt: HostRuntime) -> Result<ExitCode, Failure> {
@@ -94,7 +85,7 @@ fn main(rt: HostRuntime) -> Result<ExitCode, Failure> {
         let Some(Vector { got, expected }) = run_line(heap, line.as_str())? else {
             continue;
         };
-        if expected.is_some_and(|expected| expected == got) {
+        if expected == got {
             agree = agree.saturating_add(1);
         } else {
             differ = differ.saturating_add(1);

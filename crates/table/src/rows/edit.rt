@@ -2,23 +2,25 @@
 ghost use Rattle.std.specs.Prelude.{◌≡◌, ◌+◌, ◌-◌, ◌<◌, ◌≤◌, length, take, MatchResult, MatchOption, slice_index_or, slice_set, true};
 ghost use Rattle.std.specs.Bool.{MatchBool, Decides};
 ghost use Rattle.std.specs.List.{insert, remove};
-ghost use Rattle.table.specs.Order.{before, Parts, Found};
+ghost use Rattle.std.specs.Cmp.{IsStrictWeakOrder};
+ghost use Rattle.table.specs.Order.{Parts, Found, Between, Alike};
 
 use super::{Record, Refusal, Table};
+use crate::order::{Ordered, is_before};
 use crate::shift::{close, open};
 
-impl<T: Ord + Copy> Table<'_, T> {
+impl<T: Ordered<By> + Copy, By> Table<'_, T, By> {
     // Puts a record in at its place. Where it is refused, nothing is changed.
     pub fn insert(&mut self, x: T) -> Result<usize, Refusal>
         ensures room { length self.new.slots.now ≡ length self.old.slots.now }
         ensures same { self.new.slots.ghost_name ≡ self.old.slots.ghost_name }
         ensures rows { MatchResult result
-            (λ i. Parts (before T.cmp) self.old.slots.now self.old.len x i
+            (λ i. Parts T.before self.old.slots.now self.old.len x i
             × (self.new.len ≡ self.old.len + 1)
             × (take self.new.len self.new.slots.now ≡ insert (take self.old.len self.old.slots.now) i x))
             (λ e. (self.new.len ≡ self.old.len)
             × (self.new.slots.now ≡ self.old.slots.now)
-            × elim e [ Refusal.Full ↦ self.old.len ≡ length self.old.slots.now | Refusal.Known i ↦ Found (before T.cmp) self.old.slots.now self.old.len x i ]) }
+            × elim e [ Refusal.Full ↦ self.old.len ≡ length self.old.slots.now | Refusal.Known i ↦ Found T.before self.old.slots.now self.old.len x i ]) }
     {
         match self.find(&x) {
             Ok(i) => Err(Refusal::Known(i)),
@@ -37,7 +39,7 @@ impl<T: Ord + Copy> Table<'_, T> {
     pub fn insert_at(&mut self, i: usize, x: T) -> bool
         ensures room { length self.new.slots.now ≡ length self.old.slots.now }
         ensures same { self.new.slots.ghost_name ≡ self.old.slots.ghost_name }
-        ensures granted { Decides result ((self.old.len < length self.old.slots.now) × Parts (before T.cmp) self.old.slots.now self.old.len x i) }
+        ensures granted { Decides result ((self.old.len < length self.old.slots.now) × Parts T.before self.old.slots.now self.old.len x i) }
         ensures rows { MatchBool result
             ((self.new.len ≡ self.old.len + 1)
             × (take self.new.len self.new.slots.now ≡ insert (take self.old.len self.old.slots.now) i x))
@@ -52,7 +54,7 @@ impl<T: Ord + Copy> Table<'_, T> {
 
     // Whether an index parts the records before `x` from those after it.
     fn parts(&self, i: usize, x: &T) -> bool
-        ensures { Decides result (Parts (before T.cmp) self.now.slots.now self.now.len x.now i) }
+        ensures { Decides result (Parts T.before self.now.slots.now self.now.len x.now i) }
     {
         if i > self.len {
             return false;
@@ -63,24 +65,24 @@ impl<T: Ord + Copy> Table<'_, T> {
     // Whether `x` comes after the record before an index, if there is one.
     fn follows(&self, i: usize, x: &T) -> bool
         requires { i ≤ self.now.len }
-        ensures { Decides result ((d : T) → 0 < i → before T.cmp (slice_index_or self.now.slots.now (i - 1) d) x.now ≡ true) }
+        ensures { Decides result ((d : T) → 0 < i → T.before (slice_index_or self.now.slots.now (i - 1) d) x.now ≡ true) }
     {
-        i == 0 || self.records()[i - 1] < *x
+        i == 0 || is_before::<T, By>(&self.records()[i - 1], x)
     }
 
     // Whether `x` comes before the record at an index, if there is one.
     fn precedes(&self, x: &T, i: usize) -> bool
         requires { i ≤ self.now.len }
-        ensures { Decides result ((d : T) → i < self.now.len → before T.cmp x.now (slice_index_or self.now.slots.now i d) ≡ true) }
+        ensures { Decides result ((d : T) → i < self.now.len → T.before x.now (slice_index_or self.now.slots.now i d) ≡ true) }
     {
-        i == self.len || *x < self.records()[i]
+        i == self.len || is_before::<T, By>(x, &self.records()[i])
     }
 
     // Puts a record in at an index that parts those before it from those after it.
     #[tactic(auto, using(crate::proofs::Slides::take_opened))]
     fn put(&mut self, i: usize, x: T)
         requires within { self.old.len < length self.old.slots.now }
-        requires place { Parts (before T.cmp) self.old.slots.now self.old.len x i }
+        requires place { Parts T.before self.old.slots.now self.old.len x i }
         ensures room { length self.new.slots.now ≡ length self.old.slots.now }
         ensures same { self.new.slots.ghost_name ≡ self.old.slots.ghost_name }
         ensures rows { (self.new.len ≡ self.old.len + 1) × (take self.new.len self.new.slots.now ≡ insert (take self.old.len self.old.slots.now) i x) }
@@ -90,24 +92,42 @@ impl<T: Ord + Copy> Table<'_, T> {
         self.len = len + 1;
     }
 
-    // Puts a record in the place of one that is the same in the order. Where there is none, nothing is changed.
+    // Puts a record in the place of one that is the same in the order, if it stands between the two beside it. Where it is refused, nothing is changed.
+    // In an order where what is the same as the same is the same, as in a total one, it always stands there; so does one that compares with every record as the old one does.
     pub fn replace(&mut self, i: usize, x: T) -> bool
         ensures same { self.new.slots.ghost_name ≡ self.old.slots.ghost_name }
-        ensures granted { Decides result (Found (before T.cmp) self.old.slots.now self.old.len x i) }
+        ensures granted { Decides result (Found T.before self.old.slots.now self.old.len x i × Between T.before self.old.slots.now self.old.len x i) }
+        ensures weak { IsStrictWeakOrder T.before → Decides result (Found T.before self.old.slots.now self.old.len x i) }
+        ensures alike { i < self.old.len → Alike T.before self.old.slots.now x i → result ≡ true }
         ensures rows { (self.new.len ≡ self.old.len) × MatchBool result (self.new.slots.now ≡ slice_set self.old.slots.now i x) (self.new.slots.now ≡ self.old.slots.now) }
     {
-        if !self.has(i, &x) {
+        if !self.fits(i, &x) {
             return false;
         }
         self.slots[i] = x;
         true
     }
 
+    // Whether `x` can stand in the place of the record at an index.
+    fn fits(&self, i: usize, x: &T) -> bool
+        ensures { Decides result (Found T.before self.now.slots.now self.now.len x.now i × Between T.before self.now.slots.now self.now.len x.now i) }
+    {
+        self.has(i, x) && self.between(i, x)
+    }
+
     // Whether a record that is the same in the order stands at an index.
     fn has(&self, i: usize, x: &T) -> bool
-        ensures { Decides result (Found (before T.cmp) self.now.slots.now self.now.len x.now i) }
+        ensures { Decides result (Found T.before self.now.slots.now self.now.len x.now i) }
     {
-        i < self.len && self.records()[i].cmp(x).is_eq()
+        i < self.len && self.records()[i].compare(x).is_eq()
+    }
+
+    // Whether `x` comes after the record before an index and before the one behind it, where there are such.
+    fn between(&self, i: usize, x: &T) -> bool
+        requires { i < self.now.len }
+        ensures { Decides result (Between T.before self.now.slots.now self.now.len x.now i) }
+    {
+        self.follows(i, x) && self.precedes(x, i + 1)
     }
 
     // Takes out the record at an index, if there are so many.

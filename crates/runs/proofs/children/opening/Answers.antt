@@ -56,7 +56,7 @@ loop-i-smaller g c =
     let r = c.args.run.now in
     let ps = g.R.PairRun.pairs r in
     let s = c.seek-i-in-Some in
-    let on : c.loop-i.i < s.result = turn_on ps (g.R.PairRun.lawful r).ascends c.args.prefix.now c.args.after.now c.loop-i.i c.loop-i.invariant.1 c.key_at-key.result.now c.key_at-key.ensures c.if-not-begins_with.ensures c.in-Some.n c.in-Some.ensures (omega arith) s.result s.ensures in
+    let on : c.loop-i.i < s.result = turn_on ps (g.R.PairRun.lawful r).ascends c.args.prefix.now c.args.after.now c.loop-i.i c.loop-i.invariant.1 c.key_at-key.result.now c.key_at-key.ensures c.if-not-begins_with.ensures c.in-Some.n c.in-Some.ensures (omega arith) s.result _ s.ensures (omega arith) in
     let w : s.result ≤ length ps = s.ensures.within in
     let less : length ps - s.result < length ps - c.loop-i.i = omega arith in
     less
@@ -67,7 +67,7 @@ loop-i-preserved g c =
     let ps = g.R.PairRun.pairs r in
     let a = (g.R.PairRun.lawful r).ascends in
     let s = c.seek-i-in-Some in
-    let on : c.loop-i.i < s.result = turn_on ps a c.args.prefix.now c.args.after.now c.loop-i.i c.loop-i.invariant.1 c.key_at-key.result.now c.key_at-key.ensures c.if-not-begins_with.ensures c.in-Some.n c.in-Some.ensures (omega arith) s.result s.ensures in (
+    let on : c.loop-i.i < s.result = turn_on ps a c.args.prefix.now c.args.after.now c.loop-i.i c.loop-i.invariant.1 c.key_at-key.result.now c.key_at-key.ensures c.if-not-begins_with.ensures c.in-Some.n c.in-Some.ensures (omega arith) s.result _ s.ensures (omega arith) in (
       s.ensures.within,
       turn_skip ps a c.args.prefix.now c.args.after.now c.loop-i.i c.loop-i.invariant.1 c.key_at-key.result.now c.key_at-key.ensures c.if-not-begins_with.ensures c.in-Some.n c.in-Some.ensures (omega arith) s.result s.ensures c.if-is_before.ensures,
       λ j h l. c.loop-i.invariant.2 j (omega arith) l,

@@ -7,8 +7,8 @@ use Rattle.std.specs.List.{find, list_all, slice_range}
 use Rattle.std.specs.Slice.Iter.{iter_rest}
 use Rattle.text.specs.declared.utf8.ByteRange.{ByteRange}
 use Rattle.text.specs.Bytes.{Bytes}
-use Rattle.text.specs.Utf8.{sequence_length, unless_zero}
-use Rattle.text.proofs.Rows.{none_behind, no_row, a_row, row_asked, same_find_of, is_row, read, wides}
+use Rattle.text.specs.Utf8.{rows, sequence_length, unless_zero}
+use Rattle.text.proofs.Rows.{none_behind, no_row, a_row, row_asked, same_find_of, is_row, read, all_covered, wides}
 use Rattle.text.proofs.utf8.sequence_len.Goals as goal
 
 -- `get(at..)` gives all behind the place
@@ -38,7 +38,7 @@ returns-in_err-row c =
     let there = c.in_ok-first.ensures.item in
     let first = asked ∙ same_find_of n c.in_ok-first.field-0.now t rest (ltb-true 0 (length t) (sym there.0)) there.1 c.width-n.ensures (ap (λ r. wides (read r)) c.iter.ensures.rest) in
     c.from_residual-in_err-row.ensures
-    ∙ no_row t rest (ap read c.iter.ensures.rest) (sym first ∙ ap (option_map (λ (r : Bor (Bor (List ByteRange))). r.now)) c.in_err-row.was)
+    ∙ no_row t rest (ap (λ r. all_covered rows (read r)) c.iter.ensures.rest) (sym first ∙ ap (option_map (λ (r : Bor (Bor (List ByteRange))). r.now)) c.in_err-row.was)
     ∙ ap (λ (u : Bytes). unless_zero (sequence_length u)) (all_behind c.args.s.now c.args.at t c.in_ok-bytes.ensures.lookup.0.2)
 
 pub returns : goal.returns

@@ -1,12 +1,15 @@
-use Rattle.std.proofs.Common.{length, subst}
+use Rattle.std.proofs.Common.{length, subst, rules}
 use Rattle.std.specs.List.Sorted.{IsBinarySearchResult, IsSearchInRange}
+use Rattle.std.proofs.lemmas.Fn.{always_returns_same}
+use Rattle.table.specs.Order.{ranked}
 use Rattle.table.proofs.Searching.{located}
 use Rattle.table.proofs.rows.Table.find.Goals as goal
 
 pub returns : goal.returns
 returns g c =
-    let r = c.binary_search.result in
+    let r = c.binary_search_by.result in
     let e = c.records.ensures in
-    located g.met.T.Ord.total _ _ _ r c.args.self.now.ascends c.args.self.now.within
-    (subst (λ xs. IsSearchInRange r (length xs)) e c.binary_search.ensures.bound)
-    (subst (λ xs. IsBinarySearchResult (λ y. g.T.Ord.cmp y c.args.x.now) xs r) e c.binary_search.ensures.position)
+    let at = λ (y : g.row.T.Denot). ranked g.T.Ordered.before y c.args.x.now in
+    located g.T.Ordered.before g.met.T.Ordered.chain _ _ _ r c.args.self.now.ascends c.args.self.now.within
+    (subst (λ xs. IsSearchInRange r (length xs)) e c.binary_search_by.ensures.bound)
+    (subst (λ xs. IsBinarySearchResult at xs r) e (c.binary_search_by.ensures.position at (always_returns_same _ _ _ (λ a r f k. search rules))))
