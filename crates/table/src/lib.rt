@@ -1,13 +1,13 @@
-// The ordered table, written once for any record with a strict order.
+// The table, written once for any record: ordered where the record has a strict order, and in its type where it has the library's.
 #![tactic(auto)]
 
 mod order;
 mod rows;
 mod shift;
-mod slots;
+mod sorted;
 #[cfg(test)]
 mod tests;
 
-pub use order::{ByOrd, Ordered};
+pub use order::{ByOrd, ByOwn, Ordered, OrderedBy};
 pub use rows::{Record, Refusal, Table};
-pub use slots::Slots;
+pub use sorted::Sorted;

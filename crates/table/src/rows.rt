@@ -1,11 +1,11 @@
 // The table: a run of lent slots and how many of them hold a record.
-ghost use Rattle.std.specs.Prelude.{◌≡◌, ◌<◌, ◌≤◌, length, take, slice_index_or, MatchOption};
+ghost use Rattle.std.specs.Prelude.{◌≡◌, ◌<◌, ◌≤◌, length, take, slice_index_or, MatchOption, MatchResult};
 ghost use Rattle.table.specs.Order.{Ascending, Located};
 
 mod edit;
 mod record;
 
-use crate::order::{ByOrd, Ordered, rank};
+use crate::order::{ByOwn, OrderedBy, rank};
 pub use record::Record;
 use std::marker::PhantomData;
 
@@ -16,20 +16,31 @@ pub enum Refusal {
     Known(usize),
 }
 
-// The records in the first `len` of the lent slots, ascending.
+// The records in the first `len` of the lent slots. They may be of any type; where they have an order and ascend, every call leaves them so.
+// The type takes records with no order too, so it cannot say that they ascend: that of `Sorted` does. `By` names the order, if there is one.
 // Kept: no heap in the engine, so the records lie in lent slots with their number beside them.
 #[derive(Drop)]
-pub struct Table<'a, T: Ordered<By>, By = ByOrd> {
+pub struct Table<'a, T, By = ByOwn> {
     slots: &'a mut [T],
     len: usize,
     by: PhantomData<By>,
     pub ghost within: { len ≤ length slots.now },
-    pub ghost ascends: { Ascending T.before slots.now len },
 }
 
-impl<'a, T: Ordered<By>, By> Table<'a, T, By> {
-    // A table with no record.
-    pub fn new(slots: &'a mut [T]) -> Table<'a, T, By>
+impl<'a, T> Table<'a, T> {
+    // A table with no record, in the records' own order if they have one.
+    pub fn new(slots: &'a mut [T]) -> Table<'a, T>
+        ensures empty { result.len ≡ 0 }
+        ensures slots { result.slots.now ≡ slots.old }
+        ensures same { result.slots.ghost_name ≡ slots.entry.ghost_name }
+    {
+        Table::with_order(slots)
+    }
+}
+
+impl<'a, T, By> Table<'a, T, By> {
+    // A table with no record, in the order that the type names.
+    pub fn with_order(slots: &'a mut [T]) -> Table<'a, T, By>
         ensures empty { result.len ≡ 0 }
         ensures slots { result.slots.now ≡ slots.old }
         ensures same { result.slots.ghost_name ≡ slots.entry.ghost_name }
@@ -42,7 +53,7 @@ impl<'a, T: Ordered<By>, By> Table<'a, T, By> {
     }
 }
 
-impl<T: Ordered<By>, By> Table<'_, T, By> {
+impl<T, By> Table<'_, T, By> {
     // How many records there are.
     pub fn len(&self) -> usize
         ensures { result ≡ self.now.len }
@@ -57,7 +68,7 @@ impl<T: Ordered<By>, By> Table<'_, T, By> {
         self.slots.len()
     }
 
-    // The records, ascending.
+    // The records.
     fn records(&self) -> &[T]
         ensures { result.now ≡ take self.now.len self.now.slots.now }
     {
@@ -70,10 +81,13 @@ impl<T: Ordered<By>, By> Table<'_, T, By> {
     {
         self.records().get(i)
     }
+}
 
+impl<T: OrderedBy<By>, By> Table<'_, T, By> {
     // Where a record stands, or where it would.
     pub fn find(&self, x: &T) -> Result<usize, usize>
-        ensures { Located T.before self.now.slots.now self.now.len x.now result }
+        ensures within { MatchResult result (λ i. i < self.now.len) (λ i. i ≤ self.now.len) }
+        ensures place { Ascending T.before self.now.slots.now self.now.len → Located T.before self.now.slots.now self.now.len x.now result }
     {
         self.records().binary_search_by(|y| rank::<T, By>(y, x))
     }

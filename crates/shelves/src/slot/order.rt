@@ -3,12 +3,13 @@ ghost use Rattle.std.specs.Prelude.{Some, refl};
 ghost use Rattle.std.specs.Cmp.{on_equiv, on_total, partial_equiv_from_equiv, partial_order_from_agreeing_total};
 ghost use Rattle.text.specs.Bytes.{same};
 ghost use Rattle.text.proofs.TotalOrders.{byte_order_total, same_equivalence, same_ties};
-ghost use Rattle.shelves.specs.Slots.{slot, slot_text, slot_order};
+ghost use Rattle.shelves.specs.Slots.{slot, slot_text, slot_before, slot_order};
 ghost use Rattle.shelves.specs.Ranks.{same_key};
+ghost use Rattle.table.specs.Total.{total_chain, total_alone};
 
 use super::{Slot, Span};
 use std::cmp::Ordering;
-use table::Record;
+use table::{Ordered, Record};
 use text::compare;
 
 // Kept: where the value lies is not compared, so none of these four is derived.
@@ -47,6 +48,19 @@ impl Ord for Slot {
 
     fn cmp(&self, other: &Slot) -> Ordering {
         compare(self.key.as_bytes(), other.key.as_bytes())
+    }
+}
+
+// A table of slots whose type names no order goes by this one.
+impl Ordered for Slot {
+    ghost before = { slot_before };
+
+    ghost chain = { total_chain (on_total slot_text byte_order_total) };
+
+    ghost alone = { total_alone (on_total slot_text byte_order_total) };
+
+    fn compare(&self, other: &Slot) -> Ordering {
+        Ord::cmp(self, other)
     }
 }
 
