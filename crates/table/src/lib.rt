@@ -1,4 +1,4 @@
-// The table, written once for any record: ordered where the record has a strict order, and in its type where it has the library's.
+// A table in lent slots, written once for any record. Where the records have a strict order they are kept in it; `Sorted` is the table whose type says so.
 #![tactic(auto)]
 
 mod order;

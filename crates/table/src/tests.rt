@@ -10,7 +10,7 @@ use std::test::Fail;
 #[derive(Clone, Copy, PartialEq, Debug)]
 struct Pair(u8, u8);
 
-// Names that order.
+// Names the order of pairs by both numbers.
 struct ByBoth;
 
 impl OrderedBy<ByBoth> for Pair {
