@@ -7,8 +7,8 @@ use Rattle.grammar.specs.Grammar.{Ws, Shows, s_arr0, s_arr, padded, ShowsItems, 
 use Rattle.grammar.specs.Machine.{Stack, in_arr, val, first, aft, step_first, step_item, run, stopped}
 use Rattle.grammar.specs.Terminals.{is_blank, punct_of}
 use Rattle.grammar.proofs.Complete.{ws_val, ws_first, ws_aft}
-use Rattle.documents.specs.Reading.{Part, Refuses, NoBlank, AnyArray, Each, Unlike, Differs, GotValue, GotArray}
-use Rattle.documents.proofs.Words.{SameByte, one_is, one_differs, not_is}
+use Rattle.documents.specs.Reading.{Part, Refuses, NoBlank, AnyArray, Unlike, GotValue, GotArray}
+use Rattle.documents.proofs.Words.{SameByte, not_is}
 use Rattle.documents.proofs.Parts.{part_then, part_as, part_byte, part_front, Byte, skip, go_at, bad_at, same_at}
 
 pub no_punct : (one two b : ℕ) → is_blank b ≡ false → (b ≡ one → ⊥) → (b ≡ two → ⊥) → punct_of one two b ≡ None
@@ -86,10 +86,8 @@ a_item d s r q o v g p =
     }
 
 module _ (d : ℕ) (s r : List ℕ) (p : PastItem d s r) where
-  pub a_item_bad : (q : List ℕ) → NoBlank r → Unlike ℕ SameByte 93 r → Differs ℕ SameByte (44 ∷ []) r q → Refuses (AnyArray d) s q
-  a_item_bad q n u f k =
-      let g = one_differs 44 r q f in
-      p.goes k ∙ subst (λ (x : List ℕ). run (aft d p.last (in_arr p.items ∷ k)) r ≡ stopped x) g.0 (item_stops r n u g.1 d p.last p.items k)
+  pub a_item_bad : NoBlank r → Unlike ℕ SameByte 93 r → Unlike ℕ SameByte 44 r → Refuses (AnyArray d) s r
+  a_item_bad n u v k = p.goes k ∙ item_stops r n u v d p.last p.items k
 
   pub a_close : (q : List ℕ) → r ≡ 93 ∷ q → GotArray d s q
   a_close q h =
@@ -100,10 +98,9 @@ module _ (d : ℕ) (s r : List ℕ) (p : PastItem d s r) where
         goes = λ k. p.goes k ∙ go_at (aft d p.last (in_arr p.items ∷ k)) (aft (suc d) j k) r q 93 h refl;
       }
 
-  pub a_next : (q o : List ℕ) → Part (Each ℕ SameByte (44 ∷ [])) r q → Part Ws q o → AtValue d s o
-  a_next q o f w =
+  pub a_next : (q o : List ℕ) → r ≡ 44 ∷ q → Part Ws q o → AtValue d s o
+  a_next q o h w =
       let ys : Items = also p.items p.last in
-      let h : r ≡ 44 ∷ q = one_is 44 r q f in
       record {
         items = ys;
         part = part_then (ShowsItems d p.items p.last) (Marked 44) (Ready d ys) s r o (λ t u x y. rw y.1 (r_next x y.2)) p.part (marked 44 r q o h w);

@@ -2,7 +2,6 @@ pub mod Parts
 pub mod Words
 pub mod Figures
 pub mod Strings
-pub mod Spaces
 pub mod Values
 pub mod Arrays
 pub mod Objects

@@ -1,6 +1,6 @@
 -- Parts of bytes, put together, and the automaton's steps.
 -- Assumes nothing.
-use Rattle.std.proofs.Common.{◌≡◌, ℕ, true, List, [], ◌∷◌, ◌++◌, length, sym, refl, ap, ◌∙◌, append_assoc, arith}
+use Rattle.std.proofs.Common.{◌≡◌, ℕ, ◌-◌, true, List, [], ◌∷◌, ◌++◌, length, take, drop, sym, refl, ap, ◌∙◌, append_assoc, arith, length-drop, take_all}
 use Rattle.grammar.specs.Grammar.{Ws}
 use Rattle.grammar.specs.Machine.{St, bad, go, open_end, stuck, step, finish, run, stopped}
 use Rattle.grammar.specs.Terminals.{is_blank}
@@ -36,6 +36,10 @@ part_as p f = record { text = p.text; splits = p.splits; holds = f p.text p.hold
 pub empty : (s : List ℕ) → length s ≡ 0 → s ≡ []
 empty [] h = refl
 empty (b ∷ s) h = absurd (omega arith)
+
+-- a slice up to its end
+pub to_end : (s : List ℕ) (n : ℕ) → take (length s - n) (drop n s) ≡ drop n s
+to_end s n = take_all (length s - n) (drop n s) (omega (arith, length-drop n s))
 
 -- ---- white space
 

@@ -74,6 +74,13 @@ one_differs b s r f = differs_from b s r f.before f.next f.behind f.is f.part f.
 pub not_is : (b c : ℕ) → eqb b c ≡ false → b ≡ c → ⊥
 not_is b c h e = absurd (both_ways (eqb b c) h (eq-eqb b c e))
 
+-- no byte comes, or another
+pub unlike_end : (b : ℕ) (s : List ℕ) → length s ≡ 0 → Unlike ℕ SameByte b s
+unlike_end b s h = subst (λ (x : List ℕ). Unlike ℕ SameByte b x) (sym (empty s h)) tt
+
+pub unlike_at : (b c : ℕ) (s r : List ℕ) → s ≡ c ∷ r → eqb c b ≡ false → Unlike ℕ SameByte b s
+unlike_at b c s r h e = subst (λ (x : List ℕ). Unlike ℕ SameByte b x) (sym h) e
+
 -- what a slice's prefix of one byte tells
 and_true : (z y : Bool) → (z && true) ≡ y → z ≡ y
 and_true true y h = h

@@ -12,7 +12,7 @@ const TAIL: Class = Class::In(0x80, 0xBF);
 pub fn is_blank(b: u8) -> bool
     ensures { result ≡ is_blank b }
 {
-    matches!(b, b' ' | b'\t' | b'\n' | b'\r')
+    b == b' ' || b == b'\t' || b == b'\n' || b == b'\r'
 }
 
 // Where a value is expected.
@@ -20,7 +20,7 @@ pub(crate) fn start_of(b: u8) -> Option<Start>
     ensures { result ≡ start_of b }
 {
     match b {
-        _ if is_blank(b) => Some(Start::Blank),
+        b' ' | b'\t' | b'\n' | b'\r' => Some(Start::Blank),
         b'"' => Some(Start::Quote),
         b'-' => Some(Start::Minus),
         b'0' => Some(Start::Zero),

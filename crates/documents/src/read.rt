@@ -38,18 +38,21 @@ pub fn name<'a>(start: Bare<'a>) -> Result<Named<'a>, Stop<'a>>
 pub fn value<'a>(start: Bare<'a>, depth: u8) -> Result<&'a [u8], Stop<'a>>
     ensures { MatchResult result (λ r. GotValue depth start.entry.bytes.now r.now) (λ stop. Refuses (AnyValue depth) start.entry.bytes.now stop.rest.now) }
 {
-    match first(start.bytes, start_of)? {
-        (Start::Quote, tail) => chars(tail),
-        (Start::Minus, tail) => number(tail, Phase::AtMinus),
-        (Start::Zero, tail) => number(tail, Phase::AtZero),
-        (Start::Positive, tail) => number(tail, Phase::AtWhole),
-        (Start::OpenArray, tail) if depth > 0 => array(tail, depth - 1),
-        (Start::OpenObject, tail) if depth > 0 => object(tail, depth - 1),
-        (Start::LitT, tail) => follow(tail, b"rue"),
-        (Start::LitF, tail) => follow(tail, b"alse"),
-        (Start::LitN, tail) => follow(tail, b"ull"),
-        (Start::OpenArray | Start::OpenObject | Start::Blank, _) => Err(Stop { rest: start.bytes }),
-    }
+    let rest = match first(start.bytes, start_of)? {
+        (Start::Quote, tail) => chars(tail)?,
+        (Start::Minus, tail) => number(tail, Phase::AtMinus)?,
+        (Start::Zero, tail) => number(tail, Phase::AtZero)?,
+        (Start::Positive, tail) => number(tail, Phase::AtWhole)?,
+        (Start::OpenArray, tail) if depth > 0 => array(tail, depth - 1)?,
+        (Start::OpenObject, tail) if depth > 0 => object(tail, depth - 1)?,
+        (Start::LitT, tail) => follow(tail, b"rue")?,
+        (Start::LitF, tail) => follow(tail, b"alse")?,
+        (Start::LitN, tail) => follow(tail, b"ull")?,
+        (Start::OpenArray | Start::OpenObject | Start::Blank, _) => {
+            return Err(Stop { rest: start.bytes });
+        }
+    };
+    Ok(rest)
 }
 
 // From behind an array's opening bracket to behind its closing one.
@@ -63,10 +66,14 @@ fn array(bytes: &[u8], depth: u8) -> Result<&[u8], Stop<'_>>
     }
     loop {
         let end = blanks(value(item, depth)?);
-        if let Some(rest) = end.bytes.strip_prefix(b"]") {
-            return Ok(rest);
-        }
-        item = blanks(follow(end.bytes, b",")?);
+        let Some((b, rest)) = end.bytes.split_first() else {
+            return Err(Stop { rest: end.bytes });
+        };
+        item = match *b {
+            b']' => return Ok(rest),
+            b',' => blanks(rest),
+            _ => return Err(Stop { rest: end.bytes }),
+        };
     }
 }
 
@@ -83,10 +90,14 @@ fn object(bytes: &[u8], depth: u8) -> Result<&[u8], Stop<'_>>
     loop {
         let named = name(member)?;
         let end = blanks(value(named.value, depth)?);
-        if let Some(rest) = end.bytes.strip_prefix(b"}") {
-            return Ok(rest);
-        }
-        member = blanks(follow(end.bytes, b",")?);
+        let Some((b, rest)) = end.bytes.split_first() else {
+            return Err(Stop { rest: end.bytes });
+        };
+        member = match *b {
+            b'}' => return Ok(rest),
+            b',' => blanks(rest),
+            _ => return Err(Stop { rest: end.bytes }),
+        };
     }
 }
 

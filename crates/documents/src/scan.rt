@@ -14,11 +14,14 @@ use grammar::{Char, Class, Escape, FirstHex, Phase, SecondHex};
 pub fn blanks(bytes: &[u8]) -> Bare<'_>
     ensures { Part Ws bytes.now result.bytes.now }
 {
-    let n = bytes
-        .iter()
-        .position(|b| !is_blank(*b))
-        .unwrap_or(bytes.len());
-    Bare { bytes: &bytes[n..] }
+    let mut rest = bytes;
+    while let Some((b, tail)) = rest.split_first() {
+        if !is_blank(*b) {
+            break;
+        }
+        rest = tail;
+    }
+    Bare { bytes: rest }
 }
 
 // Past bytes that are each as expected.
@@ -36,6 +39,7 @@ pub(crate) fn follow<'a, E: Expected>(bytes: &'a [u8], expected: &[E]) -> Result
 }
 
 // Past the rest of a number that has come to the phase.
+#[inline]
 pub(crate) fn number(bytes: &[u8], from: Phase) -> Result<&[u8], Stop<'_>>
     ensures { MatchResult result (λ r. GotNumber from bytes.now r.now) (λ stop. Refuses (AnyNumber from) bytes.now stop.rest.now) }
 {

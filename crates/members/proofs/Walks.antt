@@ -14,8 +14,7 @@ use Rattle.grammar.proofs.Places.{left_over, place_of}
 use Rattle.documents.specs.Reading.{Part, Refuses, NoBlank, Unlike, AnyValue, AnyObject, GotValue, GotName, ReadyPair}
 use Rattle.documents.specs.declared.fault.DocumentFault.{DocumentFault}
 use Rattle.documents.specs.declared.fault.DocumentFault.TheVariants.{Syntax}
-use Rattle.documents.proofs.Parts.{skip, go_at}
-use Rattle.documents.proofs.Spaces.{to_end}
+use Rattle.documents.proofs.Parts.{skip, go_at, to_end}
 use Rattle.documents.proofs.Words.{SameByte, not_is}
 use Rattle.documents.proofs.Objects.{AtName, PastPair, o_none, o_begin, o_name, o_pair, o_close, o_next}
 use Rattle.names.specs.Undone.{undone}
