@@ -151,6 +151,9 @@ module _ (d : ℕ) (s r : List ℕ) (p : PastPair d s r) where
   pub o_pair_stops : NoBlank r → Unlike ℕ SameByte 125 r → Unlike ℕ SameByte 44 r → Refuses (AnyObject d) s r
   o_pair_stops n u v k = p.goes k ∙ pair_stops r n u v d p.last p.before p.named k
 
+  pub o_pair_bad : (q : List ℕ) → NoBlank r → Unlike ℕ SameByte 125 r → Differs ℕ SameByte (44 ∷ []) r q → Refuses (AnyObject d) s q
+  o_pair_bad q n u f = let g = one_differs 44 r q f in subst (λ (x : List ℕ). Refuses (AnyObject d) s x) g.0 (o_pair_stops n u g.1)
+
   unfoldable pub o_close : (q : List ℕ) → r ≡ 125 ∷ q → GotObject d s q
   o_close q h =
       let j : Json = obj (malso p.before p.named p.last) in

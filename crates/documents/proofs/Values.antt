@@ -11,7 +11,7 @@ use Rattle.grammar.specs.declared.kinds.Start.{Start}
 use Rattle.grammar.specs.declared.kinds.Start.TheVariants.{Blank, Quote, Minus, Zero, Positive, OpenArray, OpenObject, LitT, LitF, LitN}
 use Rattle.grammar.specs.declared.kinds.Phase.{Phase}
 use Rattle.grammar.specs.declared.kinds.Phase.TheVariants.{AtMinus, AtZero, AtWhole}
-use Rattle.documents.specs.Reading.{Part, NoBlank, Refuses, AnyValue, Each, Differs, GotString, GotNumber, GotValue, GotArray, GotObject}
+use Rattle.documents.specs.Reading.{Part, NoBlank, Refuses, AnyValue, AnyArray, AnyObject, AnyNumber, AnyString, Each, Differs, GotString, GotNumber, GotValue, GotArray, GotObject}
 use Rattle.documents.proofs.Parts.{part_front, go_at}
 use Rattle.documents.proofs.Words.{SameByte, word_part, word_stops}
 use Rattle.documents.proofs.Strings.{str_at}
@@ -73,6 +73,9 @@ module _ (s r : List ℕ) (d b : ℕ) (h : s ≡ b ∷ r) where
             ∙ (str_at g d value k ∙ go_at (chars d value t k) (aft d (str t) k) (34 ∷ q) q 34 refl refl);
       }
 
+  pub v_no_string : start_of b ≡ Some Quote → (q : List ℕ) → Refuses AnyString r q → Refuses (AnyValue d) s q
+  v_no_string e q n k = val_go (Some Quote) e k (chars d value [] k) refl ∙ n d value k
+
   -- ---- numbers
   module _ (c : Option Start) (p : Phase) (e : start_of b ≡ c) (st : (k : Stack) → step_val c b d k ≡ go (nums d p (b ∷ []) k)) where
     pub v_number : At p (b ∷ []) → (q : List ℕ) → GotNumber p r q → GotValue d s q
@@ -84,14 +87,26 @@ module _ (s r : List ℕ) (d b : ℕ) (h : s ≡ b ∷ r) where
           goes = λ k. val_go c e k (nums d p (b ∷ []) k) (st k) ∙ g.goes d (b ∷ []) k;
         }
 
+    pub v_no_number : (q : List ℕ) → Refuses (AnyNumber p) r q → Refuses (AnyValue d) s q
+    v_no_number q n k = val_go c e k (nums d p (b ∷ []) k) (st k) ∙ n d (b ∷ []) k
+
   pub v_minus : start_of b ≡ Some Minus → (q : List ℕ) → GotNumber AtMinus r q → GotValue d s q
   v_minus e q g = v_number (Some Minus) AtMinus e (λ k. refl) (subst (λ (x : ℕ). At AtMinus (x ∷ [])) (sym (minus_is b e)) a_minus) q g
+
+  pub v_no_minus : start_of b ≡ Some Minus → (q : List ℕ) → Refuses (AnyNumber AtMinus) r q → Refuses (AnyValue d) s q
+  v_no_minus e q g = v_no_number (Some Minus) AtMinus e (λ k. refl) q g
 
   pub v_zero : start_of b ≡ Some Zero → (q : List ℕ) → GotNumber AtZero r q → GotValue d s q
   v_zero e q g = v_number (Some Zero) AtZero e (λ k. refl) (subst (λ (x : ℕ). At AtZero (x ∷ [])) (sym (zero_is b e)) a_zero) q g
 
+  pub v_no_zero : start_of b ≡ Some Zero → (q : List ℕ) → Refuses (AnyNumber AtZero) r q → Refuses (AnyValue d) s q
+  v_no_zero e q g = v_no_number (Some Zero) AtZero e (λ k. refl) q g
+
   pub v_positive : start_of b ≡ Some Positive → (q : List ℕ) → GotNumber AtWhole r q → GotValue d s q
   v_positive e q g = v_number (Some Positive) AtWhole e (λ k. refl) (a_whole (p_one b (positive_is b e))) q g
+
+  pub v_no_positive : start_of b ≡ Some Positive → (q : List ℕ) → Refuses (AnyNumber AtWhole) r q → Refuses (AnyValue d) s q
+  v_no_positive e q g = v_no_number (Some Positive) AtWhole e (λ k. refl) q g
 
   -- ---- literals
   module _ (c : Option Start) (l : List ℕ) (j : Json) (e : start_of b ≡ c) (st : (k : Stack) → step_val c b d k ≡ go (lit d l j k)) where
@@ -137,6 +152,9 @@ module _ (s r : List ℕ) (d b : ℕ) (h : s ≡ b ∷ r) where
         goes = λ k. val_go s r (suc d) b h (Some OpenArray) e k (first d k) refl ∙ g.goes k;
       }
 
+  no_array : start_of b ≡ Some OpenArray → (q : List ℕ) → Refuses (AnyArray d) r q → Refuses (AnyValue (suc d)) s q
+  no_array e q n k = val_go s r (suc d) b h (Some OpenArray) e k (first d k) refl ∙ n k
+
   object : start_of b ≡ Some OpenObject → (q : List ℕ) → GotObject d r q → GotValue (suc d) s q
   object e q g =
       record {
@@ -145,9 +163,18 @@ module _ (s r : List ℕ) (d b : ℕ) (h : s ≡ b ∷ r) where
         goes = λ k. val_go s r (suc d) b h (Some OpenObject) e k (members d k) refl ∙ g.goes k;
       }
 
+  no_object : start_of b ≡ Some OpenObject → (q : List ℕ) → Refuses (AnyObject d) r q → Refuses (AnyValue (suc d)) s q
+  no_object e q n k = val_go s r (suc d) b h (Some OpenObject) e k (members d k) refl ∙ n k
+
 module _ (s r : List ℕ) (d b : ℕ) (h : s ≡ b ∷ r) (z : 0 < d) where
   pub v_array : start_of b ≡ Some OpenArray → (q : List ℕ) → GotArray (d - 1) r q → GotValue d s q
   v_array e q g = subst (λ (x : ℕ). GotValue x s q) (back d z) (array s r (d - 1) b h e q g)
 
+  pub v_no_array : start_of b ≡ Some OpenArray → (q : List ℕ) → Refuses (AnyArray (d - 1)) r q → Refuses (AnyValue d) s q
+  v_no_array e q n = subst (λ (x : ℕ). Refuses (AnyValue x) s q) (back d z) (no_array s r (d - 1) b h e q n)
+
   pub v_object : start_of b ≡ Some OpenObject → (q : List ℕ) → GotObject (d - 1) r q → GotValue d s q
   v_object e q g = subst (λ (x : ℕ). GotValue x s q) (back d z) (object s r (d - 1) b h e q g)
+
+  pub v_no_object : start_of b ≡ Some OpenObject → (q : List ℕ) → Refuses (AnyObject (d - 1)) r q → Refuses (AnyValue d) s q
+  v_no_object e q n = subst (λ (x : ℕ). Refuses (AnyValue x) s q) (back d z) (no_object s r (d - 1) b h e q n)
