@@ -32,10 +32,10 @@ pub record Kept (us : List Slot) (m used : ℕ) : Type 0 where
 
 module _ (shelf : Shelf) where
   abbrev ss : List Slot
-  ss = shelf.rows.table.slots.now
+  ss = shelf.rows.slots.now
 
   abbrev n : ℕ
-  n = shelf.rows.table.len
+  n = shelf.rows.len
 
   abbrev b : Bytes
   b = shelf.bytes.now
@@ -44,17 +44,17 @@ module _ (shelf : Shelf) where
   below_at : (i : ℕ) (d : Slot) → i < n → AllBelow (key_text (get_or ss i d).key) (entries (take i (take n ss)) b)
   below_at i d h =
       front_below ss n i (get_or ss i d) b (omega arith)
-      (λ k e l. ap (λ (x : Slot). slot_before (get_or ss k e) x) (get_or_default ss i d e (omega (arith, shelf.rows.table.within))) ∙ shelf.rows.ascends k i e l h)
+      (λ k e l. ap (λ (x : Slot). slot_before (get_or ss k e) x) (get_or_default ss i d e (omega (arith, shelf.rows.within))) ∙ shelf.rows.ascends k i e l h)
 
   split_slots : (i : ℕ) (d : Slot) → i < n → take n ss ≡ take i (take n ss) ++ (get_or ss i d ∷ drop (i + 1) (take n ss))
   split_slots i d h =
-      let l = length-take-le n ss shelf.rows.table.within in
+      let l = length-take-le n ss shelf.rows.within in
       split_at (take n ss) i d (omega arith) ∙ ap (λ (x : Slot). take i (take n ss) ++ (x ∷ drop (i + 1) (take n ss))) (get_or-take n ss i d h)
 
   -- a value lies within the bytes in use
   pub inside : (i : ℕ) (d : Slot) → i < n → ((get_or ss i d).span.place ≡ total (take i (take n ss))) × ((get_or ss i d).span.place + ((get_or ss i d).span.size + total (drop (i + 1) (take n ss))) ≡ shelf.used)
   inside i d h =
-      let l = length-take-le n ss shelf.rows.table.within in
+      let l = length-take-le n ss shelf.rows.within in
       let e : get_or (take n ss) i d ≡ get_or ss i d = get_or-take n ss i d h in
       let p = place_at (take n ss) i d (omega arith) shelf.places in
       let t = total_at (take n ss) i d (omega arith) in
@@ -67,9 +67,9 @@ module _ (shelf : Shelf) where
   added us m i k p parts e em rows =
       let xs = take n ss in
       let whole = take-append-drop i xs in
-      let l = length-take-le n ss shelf.rows.table.within in
+      let l = length-take-le n ss shelf.rows.within in
       let h : Held (holes.insert xs i (slot k p 0)) b (total (take i xs ++ drop i xs)) (inserted (key_text k) [] (entries (take i xs ++ drop i xs) b)) =
-      put_in (take i xs) (drop i xs) k p b e (ap (placed 0) whole ∙ shelf.places) (front_below ss n i (slot k 0 0) b parts.0 parts.1) (back_above ss n i (slot k 0 0) (drop (total (take i xs)) b) shelf.rows.table.within parts.2)
+      put_in (take i xs) (drop i xs) k p b e (ap (placed 0) whole ∙ shelf.places) (front_below ss n i (slot k 0 0) b parts.0 parts.1) (back_above ss n i (slot k 0 0) (drop (total (take i xs)) b) shelf.rows.within parts.2)
       in
       let at : (d : Slot) → get_or us i d ≡ slot k p 0 = λ d. sym (get_or-take m us i d (omega (arith, parts.0))) ∙ ap (λ (ys : List Slot). get_or ys i d) rows ∙ get_or-insert_at xs i (slot k p 0) d (omega (arith, parts.0)) in (
         record { sum = ap total rows ∙ h.sum ∙ ap total whole ∙ shelf.sum; places = ap (placed 0) rows ∙ h.places },
@@ -92,8 +92,8 @@ module _ (shelf : Shelf) where
       → Kept us m shelf.used × ((d : Slot) → pairs_of us m b ≡ removed (key_text (get_or ss i d).key) (pairs_in shelf))
   dropped us m i h empty rows =
       let xs = take n ss in
-      let l = length-take-le n ss shelf.rows.table.within in
-      let d0 = first_of ss i (omega (arith, shelf.rows.table.within)) in
+      let l = length-take-le n ss shelf.rows.within in
+      let d0 = first_of ss i (omega (arith, shelf.rows.within)) in
       let rows' : take m us ≡ take i xs ++ drop (i + 1) xs = rows ∙ ap (λ j. take i xs ++ drop j xs) (sym (add-one i)) in
       let held : (d : Slot) → Held (take i xs ++ drop (i + 1) xs) b (total xs) (removed (key_text (get_or ss i d).key) (entries xs b)) = λ d.
       let whole = split_slots i d h in
@@ -118,7 +118,7 @@ module _ (shelf : Shelf) where
   resized us ws o m i s v c tail h is room splice eo eu em rows =
       let xs = take n ss in
       let x = slot s.key s.span.place (length v) in
-      let l = length-take-le n ss shelf.rows.table.within in
+      let l = length-take-le n ss shelf.rows.within in
       let whole : xs ≡ take i xs ++ (s ∷ drop (i + 1) xs) = split_slots i s h ∙ ap (λ (y : Slot). take i xs ++ (y ∷ drop (i + 1) xs)) (sym (is s)) in
       let below : AllBelow (key_text s.key) (entries (take i xs) b) = subst (λ (y : Slot). AllBelow (key_text y.key) (entries (take i xs) b)) (sym (is s)) (below_at i s h) in
       let us' : take o us ≡ set xs i x = ap (λ j. take j us) eo ∙ ap (take n) eu ∙ take_of_set n ss i x in
@@ -138,7 +138,7 @@ module _ (shelf : Shelf) where
   pair_at_lem i x e h is =
       let fs = take i (take n ss) in
       let bs = drop (i + 1) (take n ss) in
-      let l = length-take-le n ss shelf.rows.table.within in
+      let l = length-take-le n ss shelf.rows.within in
       let lf : length (entries fs b) ≡ i = length-entries fs b ∙ length-take-le i (take n ss) (omega arith) in
       let whole : take n ss ≡ fs ++ (x ∷ bs) = split_slots i x h ∙ ap (λ (y : Slot). fs ++ (y ∷ bs)) (sym (is x)) in
       let place : total fs ≡ x.span.place = sym (inside i x h).0 ∙ ap (λ (y : Slot). y.span.place) (sym (is x)) in
@@ -148,7 +148,7 @@ module _ (shelf : Shelf) where
       ∙ ap (λ p. pair (key_text x.key) (take x.span.size (drop p b))) place
 
   pub many : length (pairs_in shelf) ≡ n
-  many = length-entries (take n ss) b ∙ length-take-le n ss shelf.rows.table.within
+  many = length-entries (take n ss) b ∙ length-take-le n ss shelf.rows.within
 
   pub heavy : weight (pairs_in shelf) ≡ shelf.used
   heavy = weight-entries (take n ss) b (omega (arith, shelf.short, shelf.sum)) ∙ shelf.sum
@@ -184,7 +184,7 @@ module _ (shelf : Shelf) where
       let back = entries bs (drop (total fs) b) in
       let ps : pairs_in shelf ≡ entries fs b ++ back = ap (λ (ys : List Slot). entries ys b) (sym (take-append-drop i (take n ss))) ∙ entries-append fs bs b in
       let qs : inserted t v (pairs_in shelf) ≡ entries fs b ++ (pair t v ∷ back) =
-      ap (inserted t v) ps ∙ inserted_between t v (entries fs b) back (front_below ss n i (slot k 0 0) b parts.0 parts.1) (back_above ss n i (slot k 0 0) (drop (total fs) b) shelf.rows.table.within parts.2)
+      ap (inserted t v) ps ∙ inserted_between t v (entries fs b) back (front_below ss n i (slot k 0 0) b parts.0 parts.1) (back_above ss n i (slot k 0 0) (drop (total fs) b) shelf.rows.within parts.2)
       in
       let lp = ap length ps ∙ length-append (entries fs b) back in
       let lq = ap length qs ∙ length-append (entries fs b) (pair t v ∷ back) in
@@ -198,4 +198,4 @@ module _ (shelf : Shelf) where
       let bs = drop i (take n ss) in
       let back = entries bs (drop (total fs) b) in
       let ps : pairs_in shelf ≡ entries fs b ++ back = ap (λ (ys : List Slot). entries ys b) (sym (take-append-drop i (take n ss))) ∙ entries-append fs bs b in
-      ap (lookup (key_text k)) ps ∙ absent_between (key_text k) (entries fs b) back (front_below ss n i (slot k 0 0) b parts.0 parts.1) (back_above ss n i (slot k 0 0) (drop (total fs) b) shelf.rows.table.within parts.2)
+      ap (lookup (key_text k)) ps ∙ absent_between (key_text k) (entries fs b) back (front_below ss n i (slot k 0 0) b parts.0 parts.1) (back_above ss n i (slot k 0 0) (drop (total fs) b) shelf.rows.within parts.2)

@@ -116,10 +116,10 @@ takes_exactly slots bytes ps k v =
 
 module _ (shelf : Shelf) (key : StoreKey) (k : Bytes) (is : key_text key ≡ k) (v : Bytes) where
   abbrev ss : List Slot
-  ss = shelf.rows.table.slots.now
+  ss = shelf.rows.slots.now
 
   abbrev n : ℕ
-  n = shelf.rows.table.len
+  n = shelf.rows.len
 
   abbrev b : Bytes
   b = shelf.bytes.now
@@ -147,7 +147,7 @@ module _ (shelf : Shelf) (key : StoreKey) (k : Bytes) (is : key_text key ≡ k) 
       (ap (λ (q : Bytes). length (inserted q none (pairs_in shelf))) (sym is) ∙ r.0, ap (λ (q : Bytes). weight (inserted q none (pairs_in shelf))) (sym is) ∙ r.1 ∙ ap (λ m. shelf.used + m) l)
 
   pub known_taken : (i : ℕ) (x : Slot) → Found slot_before ss n (slot key 0 0) i → ((d : Slot) → x ≡ get_or ss i d) → shelf.used + length v ≤ length b + x.span.size → taken (length ss) (length b) (pairs_in shelf) k (length v) ≡ true
-  known_taken i x f at h = let r = known i x f at in taken_yes (length ss) (length b) (pairs_in shelf) k (length v) (omega (arith, r.0, shelf.rows.table.within)) (omega (arith, r.1))
+  known_taken i x f at h = let r = known i x f at in taken_yes (length ss) (length b) (pairs_in shelf) k (length v) (omega (arith, r.0, shelf.rows.within)) (omega (arith, r.1))
 
   pub known_not : (i : ℕ) (x : Slot) → Found slot_before ss n (slot key 0 0) i → ((d : Slot) → x ≡ get_or ss i d) → length b + x.span.size < shelf.used + length v → taken (length ss) (length b) (pairs_in shelf) k (length v) ≡ false
   known_not i x f at h = let r = known i x f at in taken_long (length ss) (length b) (pairs_in shelf) k (length v) (omega (arith, r.1))

@@ -8,20 +8,20 @@ use table::Sorted;
 
 // The slot at an index.
 pub(crate) fn slot_at<'t>(rows: &'t Sorted<Slot>, i: usize) -> &'t Slot
-    requires { i < rows.now.table.len }
-    ensures { (d : Slot) → result.now ≡ slice_index_or rows.now.table.slots.now i d }
+    requires { i < rows.now.len }
+    ensures { (d : Slot) → result.now ≡ slice_index_or rows.now.slots.now i d }
 {
     rows.get(i).unwrap()
 }
 
 // Sets the places of the slots from an index on, the first of them to `place`.
 pub(crate) fn lay(rows: &mut Sorted<Slot>, from: usize, mut place: usize)
-    requires start { from ≤ rows.old.table.len }
-    requires short { place + total (drop from (take rows.old.table.len rows.old.table.slots.now)) < 2 ^ 64 }
-    ensures len { rows.new.table.len ≡ rows.old.table.len }
-    ensures room { length rows.new.table.slots.now ≡ length rows.old.table.slots.now }
-    ensures same { rows.new.table.slots.ghost_name ≡ rows.old.table.slots.ghost_name }
-    ensures rows { take rows.new.table.len rows.new.table.slots.now ≡ take from (take rows.old.table.len rows.old.table.slots.now) ++ laid place (drop from (take rows.old.table.len rows.old.table.slots.now)) }
+    requires start { from ≤ rows.old.len }
+    requires short { place + total (drop from (take rows.old.len rows.old.slots.now)) < 2 ^ 64 }
+    ensures len { rows.new.len ≡ rows.old.len }
+    ensures room { length rows.new.slots.now ≡ length rows.old.slots.now }
+    ensures same { rows.new.slots.ghost_name ≡ rows.old.slots.ghost_name }
+    ensures rows { take rows.new.len rows.new.slots.now ≡ take from (take rows.old.len rows.old.slots.now) ++ laid place (drop from (take rows.old.len rows.old.slots.now)) }
 {
     for i in from..rows.len() {
         let size = slot_at(rows, i).span.size;

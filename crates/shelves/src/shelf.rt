@@ -19,8 +19,8 @@ pub struct Shelf<'a> {
     bytes: &'a mut [u8],
     used: usize,
     ghost short: { used ≤ length bytes.now },
-    ghost sum: { total (take rows.table.len rows.table.slots.now) ≡ used },
-    ghost places: { placed 0 (take rows.table.len rows.table.slots.now) ≡ true },
+    ghost sum: { total (take rows.len rows.slots.now) ≡ used },
+    ghost places: { placed 0 (take rows.len rows.slots.now) ≡ true },
 }
 
 impl<'a> Shelf<'a> {
@@ -29,8 +29,8 @@ impl<'a> Shelf<'a> {
     // An empty shelf.
     pub fn new(slots: &'a mut [Slot], bytes: &'a mut [u8]) -> Shelf<'a>
         ensures empty { pairs_in result ≡ [] }
-        ensures lent { (result.rows.table.slots.now ≡ slots.old) × (result.bytes.now ≡ bytes.old) }
-        ensures same { (result.rows.table.slots.ghost_name ≡ slots.entry.ghost_name) × (result.bytes.ghost_name ≡ bytes.entry.ghost_name) }
+        ensures lent { (result.rows.slots.now ≡ slots.old) × (result.bytes.now ≡ bytes.old) }
+        ensures same { (result.rows.slots.ghost_name ≡ slots.entry.ghost_name) × (result.bytes.ghost_name ≡ bytes.entry.ghost_name) }
     {
         Shelf {
             rows: Sorted::new(slots),

@@ -3,6 +3,7 @@ ghost use Rattle.std.specs.Prelude.{◌≡◌, ◌<◌, ◌≤◌, length, take,
 ghost use Rattle.table.specs.Order.{Ascending, Located};
 
 mod edit;
+mod lent;
 mod record;
 
 use crate::order::{ByOwn, OrderedBy, rank};

@@ -16,11 +16,11 @@ use keys::StoreKey;
 impl Shelf<'_> {
     // Puts in a slot with an empty value, at the index where its key belongs.
     pub(super) fn add(&mut self, i: usize, key: StoreKey)
-        requires room { self.old.rows.table.len < length self.old.rows.table.slots.now }
-        requires place { Parts slot_before self.old.rows.table.slots.now self.old.rows.table.len (slot key 0 0) i }
+        requires room { self.old.rows.len < length self.old.rows.slots.now }
+        requires place { Parts slot_before self.old.rows.slots.now self.old.rows.len (slot key 0 0) i }
         ensures lent { Lent self.old self.new }
         ensures adds { pairs_in self.new ≡ inserted (key_text key) [] (pairs_in self.old) }
-        ensures here { (self.new.rows.table.len ≡ self.old.rows.table.len + 1) × (self.new.used ≡ self.old.used) × ((d : Slot) → ((slot_at self.new i d).key ≡ key) × ((slot_at self.new i d).span.size ≡ 0)) }
+        ensures here { (self.new.rows.len ≡ self.old.rows.len + 1) × (self.new.used ≡ self.old.used) × ((d : Slot) → ((slot_at self.new i d).key ≡ key) × ((slot_at self.new i d).span.size ≡ 0)) }
     {
         let place = self.place(i);
         let slot = Slot {
@@ -32,11 +32,11 @@ impl Shelf<'_> {
 
     // Gives the slot at an index another value.
     pub(super) fn resize(&mut self, i: usize, value: &[u8])
-        requires place { i < self.old.rows.table.len }
+        requires place { i < self.old.rows.len }
         requires room { (d : Slot) → self.old.used + length value.now ≤ length self.old.bytes.now + (slot_at self.old i d).span.size }
         ensures lent { Lent self.old self.new }
         ensures holds { (d : Slot) → pairs_in self.new ≡ inserted (key_text (slot_at self.old i d).key) value.now (pairs_in self.old) }
-        ensures here { (self.new.rows.table.len ≡ self.old.rows.table.len) × ((d : Slot) → ((slot_at self.new i d).key ≡ (slot_at self.old i d).key) × ((slot_at self.new i d).span.size ≡ length value.now)) }
+        ensures here { (self.new.rows.len ≡ self.old.rows.len) × ((d : Slot) → ((slot_at self.new i d).key ≡ (slot_at self.old i d).key) × ((slot_at self.new i d).span.size ≡ length value.now)) }
     {
         let Span { place, size: old } = slot_at(&self.rows, i).span;
         let used = self.used;
@@ -49,7 +49,7 @@ impl Shelf<'_> {
 
     // Takes out a slot with an empty value.
     pub(super) fn drop_slot(&mut self, i: usize)
-        requires place { i < self.old.rows.table.len }
+        requires place { i < self.old.rows.len }
         requires empty { (d : Slot) → (slot_at self.old i d).span.size ≡ 0 }
         ensures lent { Lent self.old self.new }
         ensures drops { (d : Slot) → pairs_in self.new ≡ removed (key_text (slot_at self.old i d).key) (pairs_in self.old) }

@@ -9,7 +9,7 @@ use runs::PairRun;
 impl PairRun for Shelf<'_> {
     ghost pairs = { λ s. pairs_in s };
 
-    ghost lawful = { λ s. entries_lawful s.rows.table.slots.now s.rows.table.len s.bytes.now s.rows.ascends };
+    ghost lawful = { λ s. entries_lawful s.rows.slots.now s.rows.len s.bytes.now s.rows.ascends };
 
     fn count(&self) -> usize {
         self.len()

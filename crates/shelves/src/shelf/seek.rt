@@ -10,7 +10,7 @@ use keys::StoreKey;
 impl Shelf<'_> {
     // Where the slot of a key stands, or where it would.
     pub(super) fn find(&self, key: &StoreKey) -> Result<usize, usize>
-        ensures { Located slot_before self.now.rows.table.slots.now self.now.rows.table.len (slot key.now 0 0) result }
+        ensures { Located slot_before self.now.rows.slots.now self.now.rows.len (slot key.now 0 0) result }
     {
         let sought = Slot {
             key: *key,
@@ -21,7 +21,7 @@ impl Shelf<'_> {
 
     // Where the value of the slot at an index begins, or would.
     pub(super) fn place(&self, i: usize) -> usize
-        ensures { result ≡ total (take i (take self.now.rows.table.len self.now.rows.table.slots.now)) }
+        ensures { result ≡ total (take i (take self.now.rows.len self.now.rows.slots.now)) }
     {
         match self.rows.get(i) {
             Some(slot) => slot.span.place,

@@ -14,7 +14,7 @@ impl ReadStore for Shelf<'_> {
 
     ghost longest = { λ _. 400 };
 
-    ghost lawful = { λ s. entries_lawful s.rows.table.slots.now s.rows.table.len s.bytes.now s.rows.ascends };
+    ghost lawful = { λ s. entries_lawful s.rows.slots.now s.rows.len s.bytes.now s.rows.ascends };
 
     fn longest_key(&self) -> usize {
         400

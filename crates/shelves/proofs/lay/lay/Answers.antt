@@ -6,7 +6,7 @@ use Rattle.shelves.proofs.lay.lay.Goals as goal
 
 pub overflow_add-place : goal.overflow_add-place
 overflow_add-place c =
-    let t = c.loop-i.rows.table in
+    let t = c.loop-i.rows in
     let s = c.slot_at.result.now in
     let h : c.loop-i.i < t.len = omega (arith, c.len-i-end.ensures, c.loop-i.invariant.0) in
     let e = ap total (lay_head t.slots.now t.len c.loop-i.i s t.within h (c.slot_at.ensures s)) in
@@ -14,8 +14,8 @@ overflow_add-place c =
 
 pub loop-i-preserved : goal.loop-i-preserved
 loop-i-preserved c =
-    let t = c.loop-i.rows.table in
-    let u = c.set_rest.new.self.table in
+    let t = c.loop-i.rows in
+    let u = c.set_rest.new.self in
     let s = c.slot_at.result.now in
     let i = c.loop-i.i in
     let p = c.loop-i.place in
@@ -35,6 +35,6 @@ loop-i-preserved c =
 
 pub returns-clause-rows : goal.returns-clause-rows
 returns-clause-rows c =
-    let t = c.loop-i.rows.table in
+    let t = c.loop-i.rows in
     let l = length-take-le t.len t.slots.now t.within in
     sym (lay_end (take t.len t.slots.now) c.loop-i.i c.loop-i.place (omega (arith, l, c.len-i-end.ensures, c.loop-i.invariant.0))) ∙ c.loop-i.invariant.4

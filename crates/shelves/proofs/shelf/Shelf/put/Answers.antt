@@ -48,7 +48,7 @@ returns-then-len-room c =
     let w = key_ok (is_key k) (key_text c.in_ok-key.key) k c.in_ok-key.ensures in
     elim c.then-len-room.branch [
       | then-len-room-via-then-len-room z ↦
-          let h : length s.rows.table.slots.now ≤ s.rows.table.len = omega (arith, c.len.ensures, c.room.ensures, z.if-len-room.true) in
+          let h : length s.rows.slots.now ≤ s.rows.len = omega (arith, c.len.ensures, c.room.ensures, z.if-len-room.true) in
           record { lent = same_lent s; means = set_not s k v w.0 (new_full s c.in_ok-key.key k w.1 v c.in-Err.i c.in-Err.ensures h) }
       | then-len-room-via-else-len-room+then-value-self-2 z ↦
           let h : length s.bytes.now < s.used + length v = omega (arith, s.short, z.if-value-self-2.true) in
@@ -79,13 +79,13 @@ returns-else-value-self-2 c =
     let key = c.in_ok-key.key in
     let w = key_ok (is_key k) (key_text key) k c.in_ok-key.ensures in
     let i = c.in-Err.i in
-    let g : s.rows.table.len < length s.rows.table.slots.now = omega (arith, c.len.ensures, c.room.ensures, c.if-len-room.false) in
+    let g : s.rows.len < length s.rows.slots.now = omega (arith, c.len.ensures, c.room.ensures, c.if-len-room.false) in
     let h : s.used + length v ≤ length s.bytes.now = omega (arith, s.short, c.if-value-self-2.false) in
     let a = c.add.ensures in
     let o = c.add.new.self in
     let u = c.resize-in-Err.new.self in
     let r = c.resize-in-Err.ensures in
-    let d = first_of o.rows.table.slots.now i (omega (arith, o.rows.table.within, a.here.0, c.in-Err.ensures.0)) in
+    let d = first_of o.rows.slots.now i (omega (arith, o.rows.within, a.here.0, c.in-Err.ensures.0)) in
     let q : pairs_in u ≡ inserted k v (pairs_in s) =
     r.holds d ∙ ap (λ (y : StoreKey). inserted (key_text y) v (pairs_in o)) (a.here.2 d).0 ∙ ap (inserted (key_text key) v) a.adds ∙ inserted_again (key_text key) v [] (pairs_in s) ∙ ap (λ (y : Bytes). inserted y v (pairs_in s)) w.1
     in

@@ -28,14 +28,14 @@ returns-in-Ok c =
     let w = key_ok (is_key k) (key_text c.in_ok-key.key) k c.in_ok-key.ensures in
     let f = c.in-Ok.ensures in
     let i = c.in-Ok.i in
-    let d = first_of s.rows.table.slots.now i (omega (arith, f.0, s.rows.table.within)) in
+    let d = first_of s.rows.slots.now i (omega (arith, f.0, s.rows.within)) in
     let o = c.resize.new.self in
     let r = c.resize.ensures in
     let u = c.drop_slot.new.self in
     let g = c.drop_slot.ensures in
     let x = found_key s c.in_ok-key.key k w.1 [] i d f in
     let q : pairs_in u ≡ removed k (pairs_in s) =
-    g.drops d ∙ ap (λ (y : StoreKey). removed (key_text y) (pairs_in o)) (r.here.1 d).0 ∙ ap (removed (key_text (get_or s.rows.table.slots.now i d).key)) (r.holds d) ∙ ap (λ (y : Bytes). removed y (inserted y [] (pairs_in s))) x ∙ removed-inserted k [] (pairs_in s) (entries_lawful s.rows.table.slots.now s.rows.table.len s.bytes.now s.rows.ascends).ascends
+    g.drops d ∙ ap (λ (y : StoreKey). removed (key_text y) (pairs_in o)) (r.here.1 d).0 ∙ ap (removed (key_text (get_or s.rows.slots.now i d).key)) (r.holds d) ∙ ap (λ (y : Bytes). removed y (inserted y [] (pairs_in s))) x ∙ removed-inserted k [] (pairs_in s) (entries_lawful s.rows.slots.now s.rows.len s.bytes.now s.rows.ascends).ascends
     in
     record { lent = lent_twice s o u r.lent g.lent; means = erase_did s k u w.0 q }
 
