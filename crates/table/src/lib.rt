@@ -1,4 +1,4 @@
-// A table in lent slots, written once for any record. Where the records have a strict order they are kept in it; `Sorted` is the table whose type says so.
+// A table in lent slots, for records of any type. Where they have a strict order they are kept in it; `Sorted` is the table whose type says so.
 #![tactic(auto)]
 
 mod order;

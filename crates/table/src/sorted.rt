@@ -7,7 +7,7 @@ mod edit;
 use crate::order::{ByOrd, rank};
 
 // A table whose records ascend in the library's order of their type.
-// Kept: it holds the slots itself and not a `Table` that holds them, since only so does who lends them know what they hold when the table is gone.
+// Kept: the slots are a field of its own, and not of a `Table` in it: only so is it known what they hold when the table is gone.
 #[derive(Drop)]
 pub struct Sorted<'a, T: Ord> {
     slots: &'a mut [T],

@@ -1,5 +1,5 @@
 // Records put into the sorted table, replaced and taken out of it.
-// Kept: the slots move into a `Table` for the call and back. Lent to it by the field, they would hold afterwards what the checker does not know.
+// Kept: the slots move into a `Table` for the call and back. Were they lent to it, the checker would not know what they hold afterwards.
 ghost use Rattle.std.specs.Prelude.{◌≡◌, ◌+◌, ◌<◌, ◌≤◌, length, take, MatchResult, MatchOption, slice_index_or, slice_set};
 ghost use Rattle.std.specs.Bool.{MatchBool, Decides};
 ghost use Rattle.std.specs.List.{insert, remove};
